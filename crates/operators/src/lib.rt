@@ -1,0 +1,1 @@
+// The operator list. Its meaning stands in specs/Operators.antt.

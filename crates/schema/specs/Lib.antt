@@ -1,0 +1,5 @@
+pub mod Rows
+pub mod Numbers
+pub mod Page
+pub mod FirstWalk
+pub mod Samples
