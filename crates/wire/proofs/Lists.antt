@@ -1,0 +1,111 @@
+-- Laws of Lists.antt, and of tests as facts.
+use Prim.Native.Nat.{ℕ}
+use mathlib.Core.Path.{_≡_, refl, sym, ap, _∙_}
+use mathlib.Core.Logic.{_↔_, _⊎_, inl, inr}
+use mathlib.Core.Bool.{Bool, true, false, not, _&&_, _||_}
+use mathlib.Core.List.{List, [], _∷_, List·Memᴰ, List·Memᴰ·head, List·Memᴰ·tail, List·Memᴰ·not-nil, List·Memᴰ·cases-cons}
+use mathlib.Core.Option.{Option, none, some}
+use lib.Dec.{T, eqb, eqb→eq, eqb-refl}
+use Rattle.wire.specs.Lists.{first, keep, contains}
+
+pub T-true : (b : Bool) → T b → b ≡ true
+T-true true t = refl
+T-true false t = absurd t
+
+pub T-false : (b : Bool) → T (not b) → b ≡ false
+T-false true t = absurd t
+T-false false t = refl
+
+pub true-T : (b : Bool) → b ≡ true → T b
+true-T b e = rw e tt
+
+pub or-cases : (a b : Bool) → T (a || b) → T a ⊎ T b
+or-cases true b t = inl tt
+or-cases false b t = inr t
+
+pub or-left : (a b : Bool) → T a → T (a || b)
+or-left true b t = tt
+or-left false b t = absurd t
+
+pub or-right : (a b : Bool) → T b → T (a || b)
+or-right true b t = tt
+or-right false b t = t
+
+-- ---- a property of each element
+
+abbrev pub All : {A : Type 0} → (A → Type 0) → List A → Type 0
+All Q [] = Unit {0}
+All Q (a ∷ more) = Q a × All Q more
+
+abbrev pub If : {A : Type 0} → (A → Type 0) → Option A → Type 0
+If Q none = Unit {0}
+If Q (some a) = Q a
+
+pub all-map : {A : Type 0} (Q R : A → Type 0) → ((a : A) → Q a → R a) → (l : List A) → All Q l → All R l
+all-map Q R h [] q = tt
+all-map Q R h (a ∷ l) q = (h a (q .0), all-map Q R h l (q .1))
+
+pub all-first : {A : Type 0} (Q : A → Type 0) (l : List A) → All Q l → If Q (first l)
+unfolding first
+all-first Q [] q = tt
+all-first Q (a ∷ l) q = q .0
+
+-- ---- keep
+
+module _ {A : Type 0} (test : A → Bool) where
+  pub all-keep : (Q : A → Type 0) (l : List A) → All Q l → All Q (keep test l)
+  unfolding keep
+  all-keep Q [] q = tt
+  all-keep Q (a ∷ l) q = go (test a) (all-keep Q l (q .1))
+    where
+      go : (b : Bool) → All Q (keep test l) → All Q (elim b [ true ↦ a ∷ keep test l | false ↦ keep test l ])
+      go true h = (q .0, h)
+      go false h = h
+
+  -- what is kept stood there and passes the test
+  keep-from : (x : A) (l : List A) → List·Memᴰ x (keep test l) → List·Memᴰ x l × T (test x)
+  unfolding keep
+  keep-from x [] m = absurd (List·Memᴰ·not-nil m)
+  keep-from x (a ∷ l) m = go (test a) refl m (λ k. keep-from x l k)
+    where
+      later : List·Memᴰ x l × T (test x) → List·Memᴰ x (a ∷ l) × T (test x)
+      later h = (List·Memᴰ·tail (h .0), h .1)
+
+      go : (b : Bool) → test a ≡ b → List·Memᴰ x (elim b [ true ↦ a ∷ keep test l | false ↦ keep test l ]) → (List·Memᴰ x (keep test l) → List·Memᴰ x l × T (test x)) → List·Memᴰ x (a ∷ l) × T (test x)
+      go true e n ih = elim (List·Memᴰ·cases-cons n) [
+        | inl p ↦ (List·Memᴰ·head p, rw p (true-T (test a) e))
+        | inr k ↦ later (ih k)
+      ]
+      go false e n ih = later (ih n)
+
+  -- and the other way round
+  keep-of : (x : A) (l : List A) → List·Memᴰ x l → T (test x) → List·Memᴰ x (keep test l)
+  unfolding keep
+  keep-of x [] m t = absurd (List·Memᴰ·not-nil m)
+  keep-of x (a ∷ l) m t = go (test a) refl (List·Memᴰ·cases-cons m) (λ k. keep-of x l k t)
+    where
+      go : (b : Bool) → test a ≡ b → (x ≡ a) ⊎ List·Memᴰ x l → (List·Memᴰ x l → List·Memᴰ x (keep test l)) → List·Memᴰ x (elim b [ true ↦ a ∷ keep test l | false ↦ keep test l ])
+      go true e (inl p) ih = List·Memᴰ·head p
+      go true e (inr k) ih = List·Memᴰ·tail (ih k)
+      go false e (inl p) ih = absurd (rw (ap test p ∙ e) at t)
+      go false e (inr k) ih = ih k
+
+  pub keep-exactly : (x : A) (l : List A) → List·Memᴰ x (keep test l) ↔ (List·Memᴰ x l × T (test x))
+  keep-exactly x l = ((λ m. keep-from x l m), λ h. keep-of x l (h .0) (h .1))
+
+-- ---- numbers in a list
+
+unfoldable pub subset : List ℕ → List ℕ → Bool
+subset [] ys = true
+subset (x ∷ xs) ys = contains x ys && subset xs ys
+
+pub contains-subset : (xs ys : List ℕ) (n : ℕ) → T (subset xs ys) → T (contains n xs) → T (contains n ys)
+unfolding subset contains
+contains-subset [] ys n s t = absurd t
+contains-subset (x ∷ xs) ys n s t = go (contains x ys) (subset xs ys) refl refl s (or-cases (eqb n x) (contains n xs) t) (λ u v. contains-subset xs ys n u v)
+  where
+    go : (b c : Bool) → contains x ys ≡ b → subset xs ys ≡ c → T (b && c) → T (eqb n x) ⊎ T (contains n xs) → (T (subset xs ys) → T (contains n xs) → T (contains n ys)) → T (contains n ys)
+    go true true e e′ h (inl q) ih = rw (eqb→eq n x q) (true-T (contains x ys) e)
+    go true true e e′ h (inr q) ih = ih (true-T (subset xs ys) e′) q
+    go true false e e′ h q ih = absurd h
+    go false c e e′ h q ih = absurd h
