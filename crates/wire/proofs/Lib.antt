@@ -1,5 +1,6 @@
 pub mod Tells
 pub mod Lists
 pub mod Bytes
+pub mod Passing
 pub mod Reading
 pub mod Fields

@@ -1,0 +1,72 @@
+-- What a passed first walk says of every message that it opened: it was walked too and passed, and no graph stands at depth 9.
+use Prim.Native.Nat.{ℕ, zero, suc, _+_, _-_, _≤_, _<_}
+use native.Mathlib.Omega.{arith}
+use mathlib.Core.Path.{_≡_, refl, sym, ap, _∙_}
+use mathlib.Core.Bool.{Bool, true, false, not, _&&_}
+use mathlib.Core.List.{List, [], _∷_}
+use mathlib.Core.Option.{Option, none, some}
+use lib.Dec.{T, leb, eqb}
+use Rattle.wire.specs.Outcome.{Outcome, pass, fail, _>>=_, _>>_, Refusal, Judged, Rule, refuse_at:_when:_}
+use Rattle.wire.specs.Lists.{lookup}
+use Rattle.wire.specs.Bytes.{Bytes}
+use Rattle.wire.specs.Wire.{tag, value, field, fieldsFrom, fields}
+use Rattle.wire.specs.declared.Tag.{Tag}
+use Rattle.wire.specs.declared.Field.{Field}
+use Rattle.wire.proofs.Lists.{All, If}
+use Rattle.wire.proofs.Tells.{Tells}
+use Rattle.wire.proofs.Passing.{fail-no-pass, passed-bind, passed-seq, passed-rule, passed-tells}
+use Rattle.wire.proofs.Reading.{AtTag, Follows, tag-tells, value-tells}
+use Rattle.schema.specs.Rows.{Kind, Row, rows, isGraph}
+use Rattle.schema.specs.FirstWalk.{wrongWire, slotOf, taken, take-up, kindOf, deeper, contents, turn, walk, walked}
+use Rattle.schema.proofs.Bound.{walk-bound}
+
+module _ (model : Bytes) where
+  -- a field opens no message, or one that is sound at its depth
+  abbrev pub Sound : (depth : ℕ) → Field → Kind → Type 0
+  Sound depth f k = T (not (isGraph k && eqb depth 8)) × (walked model k (deeper k depth) [] (f .next) (f .start) ≡ pass tt)
+
+  abbrev pub Opens : Kind → (depth : ℕ) → Field → Type 0
+  Opens kind depth f = If (Sound depth f) (kindOf (lookup (f .number) (rows kind)))
+
+  contents-passed : (n depth : ℕ) (o : Option Kind) (f : Field) → f .next ≤ f .start + n → contents model (λ k d e p. walk model n k d [] e p) depth o f ≡ pass tt → If (Sound depth f) o
+  unfolding contents
+  contents-passed n depth none f h e = tt
+  contents-passed n depth (some k) f h e =
+      let p = passed-seq (refuse 6 at: f .place when: (isGraph k && eqb depth 8)) (walk model n k (deeper k depth) [] (f .next) (f .start)) tt e in
+      (passed-rule 6 (f .place) (isGraph k && eqb depth 8) (p .0), sym (walk-bound model n k (deeper k depth) [] (f .next) (f .start) h) ∙ p .1)
+
+  field-of : (end pos : ℕ) (t : Tag) (f : Field) → tag model end pos ≡ pass t → value model t end ≡ pass f → field model end pos ≡ pass f
+  unfolding field _>>=_
+  field-of end pos t f e e′ = rw (e, field) e′
+
+  turn-passed : (n : ℕ) (kind : Kind) (depth : ℕ) (slots : List ℕ) (end pos : ℕ) → end ≤ suc (pos + n) →
+      turn model (λ k d e p. walk model n k d [] e p) (λ more p. walk model n kind depth more end p) kind depth slots end pos ≡ pass tt →
+      (f : Field) × (field model end pos ≡ pass f) × (pos < f .next) × Opens kind depth f × ((more : List ℕ) × (walk model n kind depth more end (f .next) ≡ pass tt))
+  unfolding turn
+  turn-passed n kind depth slots end pos h e =
+      let a = passed-bind (tag model end pos) _ tt e in
+      let t = a .0 in
+      let row = lookup (t .number) (rows kind) in
+      let b = passed-seq (refuse 4 at: pos when: wrongWire (t .wire) row) _ tt (a .2) in
+      let c = passed-seq (refuse 5 at: pos when: taken (slotOf (t .number) row) slots) _ tt (b .1) in
+      let d = passed-bind (value model t end) _ tt (c .1) in
+      let f = d .0 in
+      let g = passed-bind (contents model (λ k d e p. walk model n k d [] e p) depth (kindOf row) f) _ tt (d .2) in
+      let at′ = passed-tells (λ t. (t .place ≡ pos) × (pos < t .next)) (AtTag pos) (tag model end pos) t (tag-tells model end pos) (a .1) in
+      let on = passed-tells (Follows t end) (AtTag (t .place)) (value model t end) f (value-tells model t end) (d .1) in
+      (f, field-of end pos t f (a .1) (d .1), omega arith, rw (on .1) (contents-passed n depth (kindOf row) f (omega arith) (g .1)), (take-up (slotOf (t .number) row) slots, g .2))
+
+  walk-passed : (n : ℕ) (kind : Kind) (depth : ℕ) (slots : List ℕ) (end pos : ℕ) → end ≤ pos + n → walk model n kind depth slots end pos ≡ pass tt → All (Opens kind depth) (fieldsFrom model n end pos)
+  unfolding walk fieldsFrom
+  walk-passed zero kind depth slots end pos h e = tt
+  walk-passed (suc n) kind depth slots end pos h e = go (leb end pos) e (λ more p l w. walk-passed n kind depth more end p l w)
+    where
+      go : (b : Bool) → elim b as (λ _. Rule) [ true ↦ pass tt | false ↦ turn model (λ k d e p. walk model n k d [] e p) (λ more p. walk model n kind depth more end p) kind depth slots end pos ] ≡ pass tt →
+          ((more : List ℕ) (p : ℕ) → end ≤ p + n → walk model n kind depth more end p ≡ pass tt → All (Opens kind depth) (fieldsFrom model n end p)) →
+          All (Opens kind depth) (elim b [ true ↦ [] | false ↦ elim (field model end pos) [ pass f ↦ f ∷ fieldsFrom model n end (f .next) | fail r ↦ [] ] ])
+      go true w ih = tt
+      go false w ih = let p = turn-passed n kind depth slots end pos (omega arith) w in rw (p .1) (p .3, ih (p .4 .0) (p .0 .next) (omega arith) (p .4 .1))
+
+  pub walked-opens : (kind : Kind) (depth : ℕ) (end pos : ℕ) → walked model kind depth [] end pos ≡ pass tt → All (Opens kind depth) (fields model end pos)
+  unfolding walked fields
+  walked-opens kind depth end pos e = walk-passed (end - pos) kind depth [] end pos (omega arith) e
