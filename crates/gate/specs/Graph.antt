@@ -13,6 +13,13 @@ use Rattle.gate.specs.Walk.{Context, nestedIn, inMain, Walk, Along, alon
 use Rattle.gate.specs.Types.{isElement, declaredType, Types·computes}
 use Rattle.gate.specs.Node.{node, Node·computes}
 
+-- "In the main graph it may bear the name of an input, once: that is a default, and adds no name."
+unfoldable pub isDefault : Context → (inputs earlier : List Bytes) → Bytes → Bool
+isDefault c inputs earlier x = c .main && member x inputs && not (member x earlier)
+
+unfoldable pub defaultOrNew : (full : ℕ → Bool) → Context → (inputs : List Bytes) → Along → Name → Judged Walk
+defaultOrNew full c inputs w x = elim (isDefault c inputs (w .earlier) (x .bytes)) [ true ↦ pass (w .walk) | false ↦ define full (w .walk) x ]
+
 module _ (model : Bytes) (full : ℕ → Bool) (c : Context) where
   -- "Input: 22, 21, 23, 40; in the main graph then its type."
   unfoldable pub input : Walk → Field → Judged Walk
@@ -23,19 +30,12 @@ module _ (model : Bytes) (full : ℕ → Bool) (c : Context) where
     inMain c (declaredType model m)
     pass v
 
-  -- "In the main graph it may bear the name of an input, once: that is a default, and adds no name."
-  unfoldable pub isDefault : (inputs earlier : List Bytes) → Bytes → Bool
-  isDefault inputs earlier x = c .main && member x inputs && not (member x earlier)
-
-  unfoldable pub defaultOrNew : (inputs : List Bytes) → Along → Name → Judged Walk
-  defaultOrNew inputs w x = elim (isDefault inputs (w .earlier) (x .bytes)) [ true ↦ pass (w .walk) | false ↦ define full (w .walk) x ]
-
   -- "Initializer: 22, 21, 23, 40, 26."
   unfoldable pub initializer : (inputs : List Bytes) → Along → Field → Judged Along
   initializer inputs w f = do
     let m = message model f
     x ← naming model 22 Tensor·name m
-    v ← defaultOrNew inputs w x
+    v ← defaultOrNew full c inputs w x
     refuse 26 at: placeOf Tensor·data-type m when: not (isElement (numberOf Tensor·data-type m))
     pass (record { walk = v; earlier = x .bytes ∷ w .earlier })
 

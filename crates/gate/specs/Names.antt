@@ -2,13 +2,13 @@
 -- this file and Message.antt of `wire`, and share nothing else.
 use Prim.Native.Nat.{ℕ}
 use mathlib.Core.Bool.{_||_}
-use mathlib.Core.List.{List, map}
+use mathlib.Core.List.{List, map, flatMap}
 use lib.Dec.{eqb}
 use Rattle.wire.specs.declared.Field.{Field}
 use Rattle.wire.specs.Lists.{keep}
 use Rattle.wire.specs.Bytes.{Bytes}
 use Rattle.wire.specs.Message.{Message, allOf, placeOf, text, bytesOf, message, Message·computes}
-use Rattle.schema.specs.Numbers.{Graph·input, ValueInfo·name, Attribute·g, Attribute·graphs}
+use Rattle.schema.specs.Numbers.{Graph·input, Node·attribute, ValueInfo·name, Attribute·g, Attribute·graphs}
 
 -- A name, and "the tag of the field that holds it".
 pub record Name : Type 0 where
@@ -32,7 +32,11 @@ module _ (model : Bytes) where
   unfoldable pub inputsOf : Message → List Bytes
   inputsOf g = map (λ f. bytesOf model ValueInfo·name (message model f)) (allOf Graph·input g)
 
+  -- The bodies of a node, attribute by attribute.
+  unfoldable pub bodiesIn : (node : Field) → List Field
+  bodiesIn n = flatMap (λ a. bodiesOf (message model a)) (allOf Node·attribute (message model n))
+
 -- This file and what it is built on, for whoever computes with it.
 unfoldable pub Names·computes : Unit {0}
-unfolding Message·computes bodiesOf nameOf nameIn inputsOf
+unfolding Message·computes bodiesOf nameOf nameIn inputsOf bodiesIn flatMap
 Names·computes = tt

@@ -10,8 +10,8 @@ use Rattle.wire.specs.declared.Field.{Field}
 use Rattle.wire.specs.Lists.{keep}
 use Rattle.wire.specs.Bytes.{Bytes, same, member}
 use Rattle.wire.specs.Message.{allOf, firstOf, message, whole}
-use Rattle.schema.specs.Numbers.{Model·graph, Graph·node, Graph·initializer, Graph·input, Graph·output, Node·input, Node·output, Node·attribute, Tensor·name, ValueInfo·name}
-use Rattle.gate.specs.Names.{Name, bodiesOf, nameOf, nameIn, inputsOf, Names·computes}
+use Rattle.schema.specs.Numbers.{Model·graph, Graph·node, Graph·initializer, Graph·input, Graph·output, Node·input, Node·output, Tensor·name, ValueInfo·name}
+use Rattle.gate.specs.Names.{Name, nameOf, nameIn, inputsOf, bodiesIn, Names·computes}
 
 -- ---- the script of a graph
 
@@ -36,16 +36,12 @@ module _ (model : Bytes) where
         | false ↦ binds x ∷ initializers waiting more
       ]
 
-  -- The bodies of a node, attribute by attribute.
-  unfoldable pub bodiesIn : Field → List Field
-  bodiesIn f = flatMap (λ a. bodiesOf (message model a)) (allOf Node·attribute (message model f))
-
   -- "each node reads its nonempty inputs, visits its bodies in order, .. and binds its nonempty outputs"
   unfoldable pub nodeScript : Field → List Action
   nodeScript f =
       let m = message model f in
       flatMap (λ i. unlessEmpty reads (nameIn model i)) (allOf Node·input m)
-      ++ map visits (bodiesIn f)
+      ++ map visits (bodiesIn model f)
       ++ flatMap (λ o. unlessEmpty binds (nameIn model o)) (allOf Node·output m)
 
   -- "A graph binds inputs, then initializers (in the main graph, ..); then each node ..; then the graph reads its outputs."
@@ -147,5 +143,5 @@ module _ (model : Bytes) where
 
 -- This file and what it is built on, for whoever computes with it.
 unfoldable pub Runner·computes : Unit {0}
-unfolding Names·computes unlessEmpty initializers bodiesIn nodeScript script begin find withBound withRead bind read chosen unchosen choose forget times perform runGraph runTo run flatMap
+unfolding Names·computes unlessEmpty initializers nodeScript script begin find withBound withRead bind read chosen unchosen choose forget times perform runGraph runTo run
 Runner·computes = tt

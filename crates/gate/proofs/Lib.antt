@@ -1,0 +1,4 @@
+pub mod Rules
+pub mod Matching
+pub mod Defaults
+pub mod Lockstep
