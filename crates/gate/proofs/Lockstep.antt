@@ -20,9 +20,10 @@ use Rattle.gate.specs.Walk.{Context, nestedIn, inMain, Walk, withName, w
 use Rattle.gate.specs.Types.{isElement, declaredType}
 use Rattle.gate.specs.Node.{nodeName, nodeInput, nodeOutput, body, attribute, node}
 use Rattle.gate.specs.Graph.{input, isDefault, defaultOrNew, initializer, output, graphWith, graph}
-use Rattle.gate.specs.Runner.{Action, binds, reads, visits, unlessEmpty, initializers, nodeScript, script, binding, reading, Run, Ran, find, withBound, withRead, bind, read, chosen, unchosen, choose, forget, times, perform, runGraph}
+use Rattle.gate.specs.Runner.{Action, binds, reads, visits, unlessEmpty, initializers, nodeScript, script, binding, reading, Run, Ran, find, withBound, withRead, bind, read, unchosen, choose, forget, perform, runGraph}
 use Rattle.gate.proofs.Rules.{Type·refusals, main-type-tells, nodeName-tells}
 use Rattle.gate.proofs.Matching.{stopOf, Matches, Quiet, quiet-among, quiet-rule, bind-matches, after-matches, seq-matches, then-pass, then-quiet, quiet-matches, quiet-then, each-matches, bind-assoc, bind-pass, each-append, each-map, each-flat}
+use Rattle.gate.proofs.Visits.{visit-once}
 use Rattle.gate.proofs.Defaults.{Agree, agree-first, agree-default, agree-new}
 
 -- the judge's state and the runner's, under no choices
@@ -125,15 +126,11 @@ module _ (model : Bytes) (full : ℕ → Bool) (c : Context) (J : Walk → Field
       (then-quiet (InStep w) (refuse 35 at: x .place when: not (visible (x .bytes) (w .scope))) (inMain c (declaredType model (message model f))) (read r x)
       (read-matches 35 w x r (λ p. refl) h) (quiet-type model c (message model f)))
 
-  -- a body: under no choices it is run once, and its names are forgotten as they vanish
-  visit-once : (r : Run) (f : Field) → r .choices ≡ [] → perform K r (visits f) ≡ (K (choose r) f >>= λ s. pass (forget (choose r) s))
-  unfolding perform chosen times
-  visit-once r f h = rw (h, perform) refl
-
+  -- names of a body are forgotten as they vanish
   body-matches : (w : Walk) (r : Run) (f : Field) → InStep w r → Matches InStep (body model full c J w f) (perform K r (visits f))
   unfolding body forget leaving choose unchosen
   body-matches w r f h =
-      rw (visit-once r f (h .1))
+      rw (visit-once K r f (h .1))
       (bind-matches InStep InStep (J w f) (K (choose r) f) _ _ (nest w (choose r) f (h .0, ap unchosen (h .1), h .2)) (λ v s k. (_, refl, (h .0, k .1, k .2))))
 
   attribute-matches : (w : Along) (r : Run) (f : Field) → InStepAlong w r → Matches InStepAlong (attribute model full c J w f) (each (λ s b. perform K s (visits b)) r (bodiesOf (message model f)))

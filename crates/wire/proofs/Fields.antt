@@ -3,7 +3,7 @@ use Prim.Native.Nat.{ℕ, zero, suc, _+_, _-_, _≤_, _<_}
 use native.Mathlib.Omega.{arith}
 use mathlib.Core.Path.{_≡_, refl, sym, ap, _∙_}
 use mathlib.Core.Bool.{Bool, true, false}
-use mathlib.Core.List.{List, [], _∷_}
+use mathlib.Core.List.{List, [], _∷_, _++_, flatMap}
 use lib.ListN.{length}
 use lib.Dec.{T, leb, le→leb}
 use mir.Facts.{no-leb}
@@ -99,3 +99,14 @@ ordered-all lo hi (f ∷ fs) o = ((o .0, o .1, o .2, o .3), ordered-all lo hi fs
 pub all-of-ordered : (model : Bytes) (n : ℕ) (f : Field) → Ordered (f .start) (f .next) (allOf n (message model f))
 unfolding allOf
 all-of-ordered model n f = keep-ordered _ (f .start) (f .next) (message model f .fields) (message-ordered model f)
+
+-- the fields of fields in order lie in order
+ordered-append : (lo mid hi : ℕ) (fs gs : List Field) → lo ≤ mid → mid ≤ hi → Ordered lo mid fs → Ordered mid hi gs → Ordered lo hi (fs ++ gs)
+ordered-append lo mid hi [] gs l h o p = ordered-widen lo mid hi hi gs l (omega arith) p
+ordered-append lo mid hi (f ∷ fs) gs l h o p = (o .0, o .1, o .2, omega arith, ordered-append (f .next) mid hi fs gs (o .3) h (o .4) p)
+
+pub ordered-flat : (k : Field → List Field) → ((f : Field) → Ordered (f .start) (f .next) (k f)) → (lo hi : ℕ) (fs : List Field) → Ordered lo hi fs → Ordered lo hi (flatMap k fs)
+unfolding flatMap
+ordered-flat k one lo hi [] o = tt
+ordered-flat k one lo hi (f ∷ fs) o =
+    ordered-append lo (f .next) hi (k f) (flatMap k fs) (omega arith) (o .3) (ordered-widen lo (f .start) (f .next) (f .next) (k f) (omega arith) (omega arith) (one f)) (ordered-flat k one (f .next) hi fs (o .4))

@@ -3,7 +3,7 @@ use Prim.Native.Nat.{ℕ}
 use mathlib.Core.Path.{_≡_, refl, sym, ap, _∙_}
 use mathlib.Core.Logic.{_↔_, _⊎_, inl, inr}
 use mathlib.Core.Bool.{Bool, true, false, not, _&&_, _||_}
-use mathlib.Core.List.{List, [], _∷_, List·Memᴰ, List·Memᴰ·head, List·Memᴰ·tail, List·Memᴰ·not-nil, List·Memᴰ·cases-cons}
+use mathlib.Core.List.{List, [], _∷_, _++_, map, flatMap, List·Memᴰ, List·Memᴰ·head, List·Memᴰ·tail, List·Memᴰ·not-nil, List·Memᴰ·cases-cons}
 use mathlib.Core.Option.{Option, none, some}
 use lib.Dec.{T, eqb, eqb→eq, eqb-refl}
 use Rattle.wire.specs.Lists.{first, keep, contains}
@@ -109,3 +109,20 @@ contains-subset (x ∷ xs) ys n s t = go (contains x ys) (subset xs ys) refl ref
     go true true e e′ h (inr q) ih = ih (true-T (subset xs ys) e′) q
     go true false e e′ h q ih = absurd h
     go false c e e′ h q ih = absurd h
+
+-- ---- properties of lists put together
+
+module _ {A B : Type 0} (P : A → Type 0) (Q : B → Type 0) where
+  pub all-mapped : (k : A → B) → ((a : A) → P a → Q (k a)) → (l : List A) → All P l → All Q (map k l)
+  all-mapped k h [] p = tt
+  all-mapped k h (a ∷ l) p = (h a (p .0), all-mapped k h l (p .1))
+
+pub all-append : {A : Type 0} (Q : A → Type 0) (l m : List A) → All Q l → All Q m → All Q (l ++ m)
+all-append Q [] m p q = q
+all-append Q (a ∷ l) m p q = (p .0, all-append Q l m (p .1) q)
+
+module _ {A B : Type 0} (P : A → Type 0) (Q : B → Type 0) where
+  pub all-flat : (k : A → List B) → ((a : A) → P a → All Q (k a)) → (l : List A) → All P l → All Q (flatMap k l)
+  unfolding flatMap
+  all-flat k h [] p = tt
+  all-flat k h (a ∷ l) p = all-append Q (k a) (flatMap k l) (h a (p .0)) (all-flat k h l (p .1))
