@@ -6,3 +6,5 @@ pub mod Lockstep
 pub mod Choices
 pub mod Scripts
 pub mod Traces
+pub mod Bounds
+pub mod Depth

@@ -12,7 +12,7 @@ use Rattle.wire.specs.Lists.{isEmpty, present, contains, keep, within}
 use Rattle.wire.specs.Bytes.{Bytes, same, member}
 use Rattle.wire.specs.Message.{Message, allOf, numberOf, placeOf, text, bytesOf, message}
 use Rattle.wire.proofs.Lists.{All}
-use Rattle.wire.proofs.Tells.{Any, Among}
+use Rattle.wire.proofs.Tells.{Any, any-all}
 use Rattle.schema.specs.Numbers.{Graph·name, Graph·node, Graph·initializer, Graph·input, Graph·output, Node·input, Node·output, Node·op-type, Node·attribute, Attribute·name, Tensor·name, Tensor·data-type, ValueInfo·name}
 use Rattle.gate.specs.Identifier.{identifier}
 use Rattle.gate.specs.Names.{Name, nameOf, nameIn, bodiesOf, inputsOf, bodiesIn}
@@ -32,10 +32,6 @@ InStep w r = (w .scope ≡ r .bound) × (r .choices ≡ []) × (w .most ≡ r .m
 
 abbrev InStepAlong : Along → Run → Type 0
 InStepAlong w r = InStep (w .walk) r
-
-any-all : (l : List Field) → All Any l
-any-all [] = tt
-any-all (f ∷ l) = (tt, any-all l)
 
 visible-found : (x : Bytes) (l : List Name) → visible x l ≡ present (find x l)
 unfolding visible find present

@@ -13,7 +13,7 @@ use Rattle.wire.specs.Bytes.{Bytes, same, member}
 use Rattle.wire.specs.Message.{Message, allOf, firstOf, placeOf, text, message}
 use Rattle.wire.specs.Order.{Ordered}
 use Rattle.wire.proofs.Lists.{true-T, All, all-append, all-flat, all-mapped}
-use Rattle.wire.proofs.Tells.{Any}
+use Rattle.wire.proofs.Tells.{Any, any-all}
 use Rattle.wire.proofs.Fields.{message-ordered, keep-ordered, all-of-ordered, ordered-flat}
 use Rattle.schema.specs.Numbers.{Graph·node, Graph·initializer, Graph·input, Graph·output, Node·input, Node·output, Node·attribute, Tensor·name, ValueInfo·name}
 use Rattle.gate.specs.Names.{Name, nameOf, nameIn, bodiesOf, inputsOf, bodiesIn}
@@ -142,10 +142,6 @@ tidy-binds (a ∷ acts) b = let t = tidy-binds acts (b .1) in (((λ p x r. b .0 
     go p (inl x) h = b .0 p x
     go p (inr r) h = h r
 
-any-field : (fs : List Field) → All Any fs
-any-field [] = tt
-any-field (f ∷ fs) = (tt, any-field fs)
-
 binds-unless : (x : Name) → OnlyBinds (unlessEmpty binds x)
 unfolding unlessEmpty
 binds-unless x = go (x .bytes)
@@ -225,7 +221,7 @@ module _ (model : Bytes) where
       (parts-apart Node·input Node·attribute f (λ e. omega arith)) (λ p a. in-f p (parts-within Node·input f p a)) (λ p a. in-f p (parts-within Node·attribute f p a))
       (tidy-flat (λ i. unlessEmpty reads (nameIn model i)) tidy-input (f .start) (f .next) (allOf Node·input m) (all-of-ordered model Node·input f))
       (tidy-bodies f))
-      (tidy-binds (flatMap (λ o. unlessEmpty binds (nameIn model o)) (allOf Node·output m)) (all-flat Any (λ a. (p : ℕ) → At a p → ⊥) (λ o. unlessEmpty binds (nameIn model o)) (λ o _. binds-unless (nameIn model o)) (allOf Node·output m) (any-field (allOf Node·output m))))
+      (tidy-binds (flatMap (λ o. unlessEmpty binds (nameIn model o)) (allOf Node·output m)) (all-flat Any (λ a. (p : ℕ) → At a p → ⊥) (λ o. unlessEmpty binds (nameIn model o)) (λ o _. binds-unless (nameIn model o)) (allOf Node·output m) (any-all (allOf Node·output m))))
 
   pub tidy-script : (main : Bool) (f : Field) → Tidy (Within f) (script model main f)
   unfolding script
@@ -237,6 +233,6 @@ module _ (model : Bytes) where
       (parts-apart Graph·node Graph·output f (λ e. omega arith)) (parts-within Graph·node f) (parts-within Graph·output f)
       (tidy-append Never (Spans (allOf Graph·node g)) (Spans (allOf Graph·node g)) (map (λ i. binds (named i)) (allOf Graph·input g) ++ initializers model waiting (allOf Graph·initializer g)) (flatMap (nodeScript model) (allOf Graph·node g))
       (λ p a b. a) (λ p a. absurd a) (λ p a. a)
-      (tidy-binds (map (λ i. binds (named i)) (allOf Graph·input g) ++ initializers model waiting (allOf Graph·initializer g)) (all-append (λ a. (p : ℕ) → At a p → ⊥) (map (λ i. binds (named i)) (allOf Graph·input g)) (initializers model waiting (allOf Graph·initializer g)) (all-mapped Any (λ a. (p : ℕ) → At a p → ⊥) (λ i. binds (named i)) (λ i _ p a. a) (allOf Graph·input g) (any-field (allOf Graph·input g))) (binds-initializers waiting (allOf Graph·initializer g))))
+      (tidy-binds (map (λ i. binds (named i)) (allOf Graph·input g) ++ initializers model waiting (allOf Graph·initializer g)) (all-append (λ a. (p : ℕ) → At a p → ⊥) (map (λ i. binds (named i)) (allOf Graph·input g)) (initializers model waiting (allOf Graph·initializer g)) (all-mapped Any (λ a. (p : ℕ) → At a p → ⊥) (λ i. binds (named i)) (λ i _ p a. a) (allOf Graph·input g) (any-all (allOf Graph·input g))) (binds-initializers waiting (allOf Graph·initializer g))))
       (tidy-flat (nodeScript model) tidy-node (f .start) (f .next) (allOf Graph·node g) (all-of-ordered model Graph·node f)))
       (rw (map-flat (λ o. reads (named o))) (tidy-flat (λ o. reads (named o) ∷ []) tidy-output (f .start) (f .next) (allOf Graph·output g) (all-of-ordered model Graph·output f)))

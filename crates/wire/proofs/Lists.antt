@@ -1,6 +1,6 @@
 -- Laws of Lists.antt, and of tests as facts.
 use Prim.Native.Nat.{ℕ}
-use mathlib.Core.Path.{_≡_, refl, sym, ap, _∙_}
+use mathlib.Core.Path.{_≡_, refl, sym, ap, ap₂, _∙_}
 use mathlib.Core.Logic.{_↔_, _⊎_, inl, inr}
 use mathlib.Core.Bool.{Bool, true, false, not, _&&_, _||_}
 use mathlib.Core.List.{List, [], _∷_, _++_, map, flatMap, List·Memᴰ, List·Memᴰ·head, List·Memᴰ·tail, List·Memᴰ·not-nil, List·Memᴰ·cases-cons}
@@ -61,6 +61,16 @@ module _ {A : Type 0} (test : A → Bool) where
       go : (b : Bool) → All Q (keep test l) → All Q (elim b [ true ↦ a ∷ keep test l | false ↦ keep test l ])
       go true h = (q .0, h)
       go false h = h
+
+  -- what is kept passes the test
+  pub all-kept : (P Q : A → Type 0) → ((a : A) → P a → T (test a) → Q a) → (l : List A) → All P l → All Q (keep test l)
+  unfolding keep
+  all-kept P Q h [] p = tt
+  all-kept P Q h (a ∷ l) p = go (test a) refl (all-kept P Q h l (p .1))
+    where
+      go : (b : Bool) → test a ≡ b → All Q (keep test l) → All Q (elim b [ true ↦ a ∷ keep test l | false ↦ keep test l ])
+      go true e q = (h a (p .0) (true-T (test a) e), q)
+      go false e q = q
 
   -- what is kept stood there and passes the test
   keep-from : (x : A) (l : List A) → List·Memᴰ x (keep test l) → List·Memᴰ x l × T (test x)
@@ -126,3 +136,10 @@ module _ {A B : Type 0} (P : A → Type 0) (Q : B → Type 0) where
   unfolding flatMap
   all-flat k h [] p = tt
   all-flat k h (a ∷ l) p = all-append Q (k a) (flatMap k l) (h a (p .0)) (all-flat k h l (p .1))
+
+-- two functions that agree on each element
+module _ {A B : Type 0} (P : A → Type 0) (k j : A → List B) (agree : (a : A) → P a → k a ≡ j a) where
+  pub flat-agree : (l : List A) → All P l → flatMap k l ≡ flatMap j l
+  unfolding flatMap
+  flat-agree [] p = refl
+  flat-agree (a ∷ l) p = ap₂ (λ (u v : List B). u ++ v) (agree a (p .0)) (flat-agree l (p .1))

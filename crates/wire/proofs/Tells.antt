@@ -1,5 +1,6 @@
 -- What an outcome tells: a value has one property, a fault has another. One law for each way in which outcomes are put together.
 use Prim.Native.Nat.{ℕ}
+use mathlib.Core.Path.{_≡_, refl, ap, _∙_}
 use mathlib.Core.Bool.{Bool, true, false, not}
 use mathlib.Core.List.{List, [], _∷_}
 use mathlib.Core.Option.{Option, none, some}
@@ -15,6 +16,10 @@ Tells Q P (fail e) = P e
 -- Any value will do.
 abbrev pub Any : {A : Type 0} → A → Type 0
 Any a = Unit {0}
+
+pub any-all : {A : Type 0} (l : List A) → All Any l
+any-all [] = tt
+any-all (a ∷ l) = (tt, any-all l)
 
 -- A refusal with one of these numbers, at a place that has the property.
 abbrev pub Among : List ℕ → (ℕ → Type 0) → Refusal → Type 0
@@ -64,3 +69,11 @@ module _ {E A S : Type 0} (Q : A → Type 0) (R : S → Type 0) (P : E → Type 
   tells-each step one [] q s r = r
   tells-each step one (a ∷ more) q s r =
       tells-bind R R P (step s a) (λ t. each step t more) (one s a r (q .0)) (λ t k. tells-each step one more (q .1) t k)
+
+-- steps that agree on each element
+module _ {E A S : Type 0} (Q : A → Type 0) (step move : S → A → Outcome E S) (agree : (s : S) (a : A) → Q a → step s a ≡ move s a) where
+  pub each-agree : (list : List A) → All Q list → (s : S) → each step s list ≡ each move s list
+  unfolding each
+  each-agree [] q s = refl
+  each-agree (a ∷ more) q s =
+      ap (λ (o : Outcome E S). o >>= λ t. each step t more) (agree s a (q .0)) ∙ ap (λ (f : S → Outcome E S). move s a >>= f) (λ i t. each-agree more (q .1) t i)
