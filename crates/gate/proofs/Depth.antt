@@ -62,17 +62,17 @@ module _ (model : Bytes) where
   -- ---- two judges of graphs further in that agree
 
   module _ (full : ℕ → Bool) (c : Context) (J K : Walk → Field → Judged Walk) (Q : Field → Type 0) (agree : (w : Walk) (b : Field) → Q b → J w b ≡ K w b) where
-    body-agrees : (w : Walk) (b : Field) → Q b → body model full c J w b ≡ body model full c K w b
+    body-agrees : (w : Walk) (b : Field) → Q b → body J w b ≡ body K w b
     unfolding body
     body-agrees w b q = ap (λ (o : Judged Walk). o >>= λ v. pass (leaving w v)) (agree w b q)
 
-    attribute-agrees : (w : Along) (a : Field) → All Q (bodiesOf (message model a)) → attribute model full c J w a ≡ attribute model full c K w a
+    attribute-agrees : (w : Along) (a : Field) → All Q (bodiesOf (message model a)) → attribute model J w a ≡ attribute model K w a
     unfolding attribute
-    attribute-agrees w a q = rw (each-agree Q (body model full c J) (body model full c K) body-agrees (bodiesOf (message model a)) q (w .walk)) refl
+    attribute-agrees w a q = rw (each-agree Q (body J) (body K) body-agrees (bodiesOf (message model a)) q (w .walk)) refl
 
     node-agrees : (w : Along) (n : Field) → All (λ a. All Q (bodiesOf (message model a))) (allOf Node·attribute (message model n)) → node model full c J w n ≡ node model full c K w n
     unfolding node
-    node-agrees w n q = rw (each-agree (λ a. All Q (bodiesOf (message model a))) (attribute model full c J) (attribute model full c K) attribute-agrees (allOf Node·attribute (message model n)) q (along (w .walk))) refl
+    node-agrees w n q = rw (each-agree (λ a. All Q (bodiesOf (message model a))) (attribute model J) (attribute model K) attribute-agrees (allOf Node·attribute (message model n)) q (along (w .walk))) refl
 
     graph-agrees : (w : Walk) (f : Field) → All (λ n. All (λ a. All Q (bodiesOf (message model a))) (allOf Node·attribute (message model n))) (allOf Graph·node (message model f)) → graphWith model full c J w f ≡ graphWith model full c K w f
     unfolding graphWith

@@ -8,3 +8,4 @@ pub mod Scripts
 pub mod Traces
 pub mod Bounds
 pub mod Depth
+pub mod Cells

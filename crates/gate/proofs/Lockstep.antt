@@ -114,7 +114,7 @@ module _ (model : Bytes) (full : ℕ → Bool) (c : Context) (J : Walk → Field
           (quiet-then InStep (refuse 21 at: f .place when: not (identifier (text model f))) (define full w (nameIn model f)) (bind r (nameIn model f))
           (quiet-rule 21 (f .place) (not (identifier (text model f))) refl) (define-matches full w (nameIn model f) r h))
 
-  output-matches : (w : Walk) (u : Unit {0}) (r : Run) (f : Field) → InStep w r → Matches (λ _ s. InStep w s) (output model full c (w .scope) u f) (perform K r (reads (nameOf model ValueInfo·name (message model f))))
+  output-matches : (w : Walk) (u : Unit {0}) (r : Run) (f : Field) → InStep w r → Matches (λ _ s. InStep w s) (output model c (w .scope) u f) (perform K r (reads (nameOf model ValueInfo·name (message model f))))
   unfolding output perform
   output-matches w u r f h =
       let x = nameOf model ValueInfo·name (message model f) in
@@ -123,21 +123,21 @@ module _ (model : Bytes) (full : ℕ → Bool) (c : Context) (J : Walk → Field
       (read-matches 35 w x r (λ p. refl) h) (quiet-type model c (message model f)))
 
   -- names of a body are forgotten as they vanish
-  body-matches : (w : Walk) (r : Run) (f : Field) → InStep w r → Matches InStep (body model full c J w f) (perform K r (visits f))
+  body-matches : (w : Walk) (r : Run) (f : Field) → InStep w r → Matches InStep (body J w f) (perform K r (visits f))
   unfolding body forget leaving choose unchosen
   body-matches w r f h =
       rw (visit-once K r f (h .1))
       (bind-matches InStep InStep (J w f) (K (choose r) f) _ _ (nest w (choose r) f (h .0, ap unchosen (h .1), h .2)) (λ v s k. (_, refl, (h .0, k .1, k .2))))
 
-  attribute-matches : (w : Along) (r : Run) (f : Field) → InStepAlong w r → Matches InStepAlong (attribute model full c J w f) (each (λ s b. perform K s (visits b)) r (bodiesOf (message model f)))
+  attribute-matches : (w : Along) (r : Run) (f : Field) → InStepAlong w r → Matches InStepAlong (attribute model J w f) (each (λ s b. perform K s (visits b)) r (bodiesOf (message model f)))
   unfolding attribute
   attribute-matches w r f h =
       naming-matches model InStepAlong 22 Attribute·name (message model f) _ _ (λ p. refl)
       (quiet-then InStepAlong (refuse 31 at: _ when: _) _ _ (quiet-rule 31 _ _ refl)
       (quiet-then InStepAlong (refuse 33 at: _ when: _) _ _ (quiet-rule 33 _ _ refl)
       (quiet-then InStepAlong (refuse 32 at: _ when: _) _ _ (quiet-rule 32 _ _ refl)
-      (after-matches InStep InStepAlong (each (body model full c J) (w .walk) (bodiesOf (message model f))) _ _
-      (each-matches InStep (body model full c J) (λ s b. perform K s (visits b)) (λ v s b k. body-matches v s b k) (bodiesOf (message model f)) (w .walk) r h)
+      (after-matches InStep InStepAlong (each (body J) (w .walk) (bodiesOf (message model f))) _ _
+      (each-matches InStep (body J) (λ s b. perform K s (visits b)) (λ v s b k. body-matches v s b k) (bodiesOf (message model f)) (w .walk) r h)
       (λ v s k. (s, refl, k))))))
 
   node-script : (r : Run) (f : Field) → each (perform K) r (nodeScript model f) ≡ (
@@ -156,8 +156,8 @@ module _ (model : Bytes) (full : ℕ → Bool) (c : Context) (J : Walk → Field
       (quiet-matches InStepAlong (nodeName model (w .earlier) m) _ _ (quiet-nodeName model (w .earlier) m) (λ names.
       seq-matches (InStep (w .walk)) InStepAlong (each (nodeInput model (w .walk .scope)) tt (allOf Node·input m)) _ _ _
       (each-matches (λ _ s. InStep (w .walk) s) (nodeInput model (w .walk .scope)) (λ s i. each (perform K) s (unlessEmpty reads (nameIn model i))) (λ u s i k. node-input (w .walk) u s i k) (allOf Node·input m) tt r h)
-      (λ s k. bind-matches InStepAlong InStepAlong (each (attribute model full c J) (along (w .walk)) (allOf Node·attribute m)) _ _ _
-      (each-matches InStepAlong (attribute model full c J) (λ s a. each (λ s b. perform K s (visits b)) s (bodiesOf (message model a))) (λ v s a k. attribute-matches v s a k) (allOf Node·attribute m) (along (w .walk)) s k)
+      (λ s k. bind-matches InStepAlong InStepAlong (each (attribute model J) (along (w .walk)) (allOf Node·attribute m)) _ _ _
+      (each-matches InStepAlong (attribute model J) (λ s a. each (λ s b. perform K s (visits b)) s (bodiesOf (message model a))) (λ v s a k. attribute-matches v s a k) (allOf Node·attribute m) (along (w .walk)) s k)
       (λ v t k. quiet-then InStepAlong (refuse 34 at: _ when: _) _ _ (quiet-rule 34 _ _ refl)
       (after-matches InStep InStepAlong (each (nodeOutput model full) (v .walk) (allOf Node·output m)) _ _
       (each-matches InStep (nodeOutput model full) (λ s o. each (perform K) s (unlessEmpty binds (nameIn model o))) (λ v s o k. node-output v s o k) (allOf Node·output m) (v .walk) t k)
@@ -226,8 +226,8 @@ module _ (model : Bytes) (full : ℕ → Bool) (c : Context) (J : Walk → Field
       (initializers-match (inputsOf model g) (allOf Graph·initializer g) (along v) _ s k (agree-first c (inputsOf model g)))
       (λ i t k. bind-matches InStepAlong InStep (each (node model full c J) (along (i .walk)) (allOf Graph·node g)) _ _ _
       (each-matches InStepAlong (node model full c J) (λ s n. each (perform K) s (nodeScript model n)) (λ v s n k. node-matches v s n k) (allOf Graph·node g) (along (i .walk)) t k)
-      (λ n u k. then-pass (InStep (n .walk)) InStep (each (output model full c (n .walk .scope)) tt (allOf Graph·output g)) (n .walk) _
-      (each-matches (λ _ s. InStep (n .walk) s) (output model full c (n .walk .scope)) (λ s o. perform K s (reads (nameOf model ValueInfo·name (message model o)))) (λ x s o k. output-matches (n .walk) x s o k) (allOf Graph·output g) tt u k) (λ s k. k)))))))
+      (λ n u k. then-pass (InStep (n .walk)) InStep (each (output model c (n .walk .scope)) tt (allOf Graph·output g)) (n .walk) _
+      (each-matches (λ _ s. InStep (n .walk) s) (output model c (n .walk .scope)) (λ s o. perform K s (reads (nameOf model ValueInfo·name (message model o)))) (λ x s o k. output-matches (n .walk) x s o k) (allOf Graph·output g) tt u k) (λ s k. k)))))))
 
 -- ---- the depths: the runner has as many as the judge, or more
 

@@ -9,7 +9,7 @@ use Rattle.wire.specs.Bytes.{Bytes, member}
 use Rattle.wire.specs.Message.{Message, allOf, firstOf, numberOf, placeOf, message}
 use Rattle.schema.specs.Numbers.{Graph·node, Graph·name, Graph·initializer, Graph·input, Graph·output, Graph·sparse-initializer, ValueInfo·name, Tensor·name, Tensor·data-type}
 use Rattle.gate.specs.Names.{Name, inputsOf}
-use Rattle.gate.specs.Walk.{Context, nestedIn, inMain, Walk, Along, along, visible, naming, define}
+use Rattle.gate.specs.Walk.{Context, nestedIn, inMain, Walk, GraphJudge, Along, along, visible, naming, define}
 use Rattle.gate.specs.Types.{isElement, declaredType, Types·computes}
 use Rattle.gate.specs.Node.{node, Node·computes}
 
@@ -20,49 +20,48 @@ isDefault c inputs earlier x = c .main && member x inputs && not (member x earli
 unfoldable pub defaultOrNew : (full : ℕ → Bool) → Context → (inputs : List Bytes) → Along → Name → Judged Walk
 defaultOrNew full c inputs w x = elim (isDefault c inputs (w .earlier) (x .bytes)) [ true ↦ pass (w .walk) | false ↦ define full (w .walk) x ]
 
-module _ (model : Bytes) (full : ℕ → Bool) (c : Context) where
-  -- "Input: 22, 21, 23, 40; in the main graph then its type."
-  unfoldable pub input : Walk → Field → Judged Walk
-  input w f = do
-    let m = message model f
-    x ← naming model 22 ValueInfo·name m
-    v ← define full w x
-    inMain c (declaredType model m)
-    pass v
+-- "Input: 22, 21, 23, 40; in the main graph then its type."
+unfoldable pub input : (model : Bytes) → (full : ℕ → Bool) → Context → Walk → Field → Judged Walk
+input model full c w f = do
+  let m = message model f
+  x ← naming model 22 ValueInfo·name m
+  v ← define full w x
+  inMain c (declaredType model m)
+  pass v
 
-  -- "Initializer: 22, 21, 23, 40, 26."
-  unfoldable pub initializer : (inputs : List Bytes) → Along → Field → Judged Along
-  initializer inputs w f = do
-    let m = message model f
-    x ← naming model 22 Tensor·name m
-    v ← defaultOrNew full c inputs w x
-    refuse 26 at: placeOf Tensor·data-type m when: not (isElement (numberOf Tensor·data-type m))
-    pass (record { walk = v; earlier = x .bytes ∷ w .earlier })
+-- "Initializer: 22, 21, 23, 40, 26."
+unfoldable pub initializer : (model : Bytes) → (full : ℕ → Bool) → Context → (inputs : List Bytes) → Along → Field → Judged Along
+initializer model full c inputs w f = do
+  let m = message model f
+  x ← naming model 22 Tensor·name m
+  v ← defaultOrNew full c inputs w x
+  refuse 26 at: placeOf Tensor·data-type m when: not (isElement (numberOf Tensor·data-type m))
+  pass (record { walk = v; earlier = x .bytes ∷ w .earlier })
 
-  -- "Graph output: 22, 21, 35; in the main graph then its type. An outer name serves. The same output may be listed twice."
-  unfoldable pub output : (scope : List Name) → Unit {0} → Field → Rule
-  output scope _ f = do
-    let m = message model f
-    x ← naming model 22 ValueInfo·name m
-    refuse 35 at: x .place when: not (visible (x .bytes) scope)
-    inMain c (declaredType model m)
+-- "Graph output: 22, 21, 35; in the main graph then its type. An outer name serves. The same output may be listed twice."
+unfoldable pub output : (model : Bytes) → Context → (scope : List Name) → Unit {0} → Field → Rule
+output model c scope _ f = do
+  let m = message model f
+  x ← naming model 22 ValueInfo·name m
+  refuse 35 at: x .place when: not (visible (x .bytes) scope)
+  inMain c (declaredType model m)
 
-  -- "Of each graph: its name (20, 21); 16; inputs; initializers; nodes; outputs, each in list order whatever the field order on
-  -- the wire." `nested` judges a graph inside this one.
-  unfoldable pub graphWith : (nested : Walk → Field → Judged Walk) → Walk → Field → Judged Walk
-  graphWith nested w f = do
-    let g = message model f
-    _ ← naming model 20 Graph·name g
-    refuse 16 at: placeOf Graph·sparse-initializer g when: present (firstOf Graph·sparse-initializer g)
-    v ← each input w (allOf Graph·input g)
-    i ← each (initializer (inputsOf model g)) (along v) (allOf Graph·initializer g)
-    n ← each (node model full c nested) (along (i .walk)) (allOf Graph·node g)
-    each (output (n .walk .scope)) tt (allOf Graph·output g)
-    pass (n .walk)
+-- "Of each graph: its name (20, 21); 16; inputs; initializers; nodes; outputs, each in list order whatever the field order on
+-- the wire." `nested` judges a graph inside this one.
+unfoldable pub graphWith : (model : Bytes) → (full : ℕ → Bool) → Context → (nested : GraphJudge) → GraphJudge
+graphWith model full c nested w f = do
+  let g = message model f
+  _ ← naming model 20 Graph·name g
+  refuse 16 at: placeOf Graph·sparse-initializer g when: present (firstOf Graph·sparse-initializer g)
+  v ← each (input model full c) w (allOf Graph·input g)
+  i ← each (initializer model full c (inputsOf model g)) (along v) (allOf Graph·initializer g)
+  n ← each (node model full c nested) (along (i .walk)) (allOf Graph·node g)
+  each (output model c (n .walk .scope)) tt (allOf Graph·output g)
+  pass (n .walk)
 
 -- "A graph judges nodes, a node judges attributes, and an attribute judges graphs, to depth 8": `left` depths are left for this
 -- graph and those inside it.
-unfoldable pub graph : (model : Bytes) → (full : ℕ → Bool) → (left : ℕ) → Context → Walk → Field → Judged Walk
+unfoldable pub graph : (model : Bytes) → (full : ℕ → Bool) → (left : ℕ) → Context → GraphJudge
 graph model full zero c w f = refused 6 (f .place)
 graph model full (suc left) c w f = graphWith model full c (λ v g. graph model full left (nestedIn c) v g) w f
 

@@ -13,7 +13,7 @@ use Rattle.operators.specs.Operators.{domain, Operators·computes}
 use Rattle.schema.specs.Numbers.{Node·input, Node·output, Node·name, Node·op-type, Node·attribute, Node·domain, Attribute·name, Attribute·type, Attribute·ref-attr-name}
 use Rattle.gate.specs.Identifier.{identifier}
 use Rattle.gate.specs.Names.{Name, nameIn, bodiesOf}
-use Rattle.gate.specs.Walk.{Context, Walk, withNode, leaving, Along, along, visible, naming, define, Walk·computes}
+use Rattle.gate.specs.Walk.{Context, Walk, GraphJudge, withNode, leaving, Along, along, visible, naming, define, Walk·computes}
 
 -- ---- attribute values
 
@@ -85,36 +85,35 @@ module _ (model : Bytes) where
 
 -- ---- attribute and node; `nested` judges a graph that an attribute holds
 
-module _ (model : Bytes) (full : ℕ → Bool) (c : Context) (nested : Walk → Field → Judged Walk) where
-  -- "Their names vanish when the graph ends."
-  unfoldable pub body : Walk → Field → Judged Walk
-  body w f = do
-    v ← nested w f
-    pass (leaving w v)
+-- "Their names vanish when the graph ends."
+unfoldable pub body : (nested : GraphJudge) → Walk → Field → Judged Walk
+body nested w f = do
+  v ← nested w f
+  pass (leaving w v)
 
-  -- "Attribute: 22, 21, 31, 33, 32; then its graphs in order"
-  unfoldable pub attribute : Along → Field → Judged Along
-  attribute w f = do
-    let a = message model f
-    x ← naming model 22 Attribute·name a
-    refuse 31 at: x .place when: member (x .bytes) (w .earlier)
-    refuse 33 at: a .place when: not (isEmpty (bytesOf model Attribute·ref-attr-name a))
-    refuse 32 at: a .place when: badValue (numberOf Attribute·type a) a
-    v ← each body (w .walk) (bodiesOf a)
-    pass (record { walk = v; earlier = x .bytes ∷ w .earlier })
+-- "Attribute: 22, 21, 31, 33, 32; then its graphs in order"
+unfoldable pub attribute : (model : Bytes) → (nested : GraphJudge) → Along → Field → Judged Along
+attribute model nested w f = do
+  let a = message model f
+  x ← naming model 22 Attribute·name a
+  refuse 31 at: x .place when: member (x .bytes) (w .earlier)
+  refuse 33 at: a .place when: not (isEmpty (bytesOf model Attribute·ref-attr-name a))
+  refuse 32 at: a .place when: badValue (numberOf Attribute·type a) a
+  v ← each (body nested) (w .walk) (bodiesOf a)
+  pass (record { walk = v; earlier = x .bytes ∷ w .earlier })
 
-  -- "Node: op_type (27, 21); 28; a nonempty node name (21, 29); inputs; attributes; 34; outputs."
-  unfoldable pub node : Along → Field → Judged Along
-  node w f = do
-    let m = message model f
-    _ ← naming model 27 Node·op-type m
-    refuse 28 at: placeOf Node·domain m when: not (member (domain (bytesOf model Node·domain m)) (c .imports))
-    names ← nodeName model (w .earlier) m
-    each (nodeInput model (w .walk .scope)) tt (allOf Node·input m)
-    a ← each attribute (along (w .walk)) (allOf Node·attribute m)
-    refuse 34 at: m .place when: isEmpty (allOf Node·output m)
-    v ← each (nodeOutput model full) (a .walk) (allOf Node·output m)
-    pass (record { walk = withNode v; earlier = names })
+-- "Node: op_type (27, 21); 28; a nonempty node name (21, 29); inputs; attributes; 34; outputs."
+unfoldable pub node : (model : Bytes) → (full : ℕ → Bool) → Context → (nested : GraphJudge) → Along → Field → Judged Along
+node model full c nested w f = do
+  let m = message model f
+  _ ← naming model 27 Node·op-type m
+  refuse 28 at: placeOf Node·domain m when: not (member (domain (bytesOf model Node·domain m)) (c .imports))
+  names ← nodeName model (w .earlier) m
+  each (nodeInput model (w .walk .scope)) tt (allOf Node·input m)
+  a ← each (attribute model nested) (along (w .walk)) (allOf Node·attribute m)
+  refuse 34 at: m .place when: isEmpty (allOf Node·output m)
+  v ← each (nodeOutput model full) (a .walk) (allOf Node·output m)
+  pass (record { walk = withNode v; earlier = names })
 
 -- This file and what it is built on, for whoever computes with it.
 unfoldable pub Node·computes : Unit {0}

@@ -4,6 +4,7 @@ use mathlib.Core.Bool.{Bool, true, false, not, _||_}
 use mathlib.Core.List.{List, [], _∷_}
 use lib.ListN.{length}
 use Rattle.wire.specs.Outcome.{pass, fail, _>>=_, _>>_, Judged, Rule, refuse_at:_when:_}
+use Rattle.wire.specs.declared.Field.{Field}
 use Rattle.wire.specs.Lists.{isEmpty}
 use Rattle.wire.specs.Bytes.{Bytes, same}
 use Rattle.wire.specs.Message.{Message, placeOf, bytesOf}
@@ -28,6 +29,10 @@ pub record Walk : Type 0 where
   pub scope : List Name
   pub nodes : ℕ
   pub most : ℕ
+
+-- What judges a graph: the walk before it, its field, and the walk after it.
+abbrev pub GraphJudge : Type 0
+GraphJudge = Walk → Field → Judged Walk
 
 unfoldable pub start : Walk
 start = record { scope = []; nodes = 0; most = 0 }
