@@ -9,3 +9,4 @@ pub mod Traces
 pub mod Bounds
 pub mod Depth
 pub mod Cells
+pub mod Counting

@@ -3,7 +3,7 @@ use Prim.Native.Nat.{ℕ}
 use mathlib.Core.Path.{_≡_, refl, sym, ap, ap₂, _∙_}
 use mathlib.Core.Logic.{_↔_, _⊎_, inl, inr}
 use mathlib.Core.Bool.{Bool, true, false, not, _&&_, _||_}
-use mathlib.Core.List.{List, [], _∷_, _++_, map, flatMap, List·Memᴰ, List·Memᴰ·head, List·Memᴰ·tail, List·Memᴰ·not-nil, List·Memᴰ·cases-cons}
+use mathlib.Core.List.{List, [], _∷_, _++_, map, flatMap, append-assoc, List·Memᴰ, List·Memᴰ·head, List·Memᴰ·tail, List·Memᴰ·not-nil, List·Memᴰ·cases-cons}
 use mathlib.Core.Option.{Option, none, some}
 use lib.Dec.{T, eqb, eqb→eq, eqb-refl}
 use Rattle.wire.specs.Lists.{first, keep, contains}
@@ -143,3 +143,13 @@ module _ {A B : Type 0} (P : A → Type 0) (k j : A → List B) (agree : (a : A)
   unfolding flatMap
   flat-agree [] p = refl
   flat-agree (a ∷ l) p = ap₂ (λ (u v : List B). u ++ v) (agree a (p .0)) (flat-agree l (p .1))
+
+flat-append : {A B : Type 0} (k : A → List B) (l m : List A) → flatMap k (l ++ m) ≡ flatMap k l ++ flatMap k m
+unfolding flatMap
+flat-append k [] m = refl
+flat-append k (a ∷ l) m = ap (λ (x : List _). k a ++ x) (flat-append k l m) ∙ sym (append-assoc (k a) (flatMap k l) (flatMap k m))
+
+pub flat-flat : {A B C : Type 0} (k : B → List C) (j : A → List B) (l : List A) → flatMap k (flatMap j l) ≡ flatMap (λ a. flatMap k (j a)) l
+unfolding flatMap
+flat-flat k j [] = refl
+flat-flat k j (a ∷ l) = flat-append k (j a) (flatMap j l) ∙ ap (λ (x : List _). flatMap k (j a) ++ x) (flat-flat k j l)
