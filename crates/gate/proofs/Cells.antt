@@ -26,7 +26,7 @@ use Rattle.gate.specs.Header.{header, secondWalkTo, secondWalk}
 use Rattle.gate.specs.Verdict.{LARGEST, Counts, counts, fills, verdict}
 use Rattle.gate.specs.Demands.{Acceptable, AcceptedExactly}
 use Rattle.wire.proofs.Lists.{T-false}
-use Rattle.wire.proofs.Passing.{fail-no-pass, passed-bind, passed-seq, passed-rule}
+use Rattle.wire.proofs.Passing.{fail-no-pass, pass-same, passed-bind, passed-seq, passed-rule}
 
 abbrev Failed : {A : Type 0} → Judged A → Type 0
 Failed j = (r : Refusal) × (j ≡ fail r)
@@ -213,9 +213,6 @@ module _ (cells : ℕ) where
       go : Either (w .most) j w → j ≡ pass w
       go (inl f) = f .1
       go (inr f) = let q = f .0 in absurd (omega arith)
-
-pass-same : {E A : Type 0} (a b : A) → _≡_ {A = Outcome E A} (pass a) (pass b) → a ≡ b
-pass-same a b e = cc
 
 not-false : (b : Bool) → T (not (not b)) → b ≡ true
 not-false true t = refl

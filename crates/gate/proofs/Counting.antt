@@ -11,16 +11,18 @@ use Rattle.wire.specs.Outcome.{Outcome, pass, fail, _>>=_, _>>_, each, Refusal,
 use Rattle.wire.specs.declared.Field.{Field}
 use Rattle.wire.specs.Lists.{isEmpty}
 use Rattle.wire.specs.Bytes.{Bytes}
-use Rattle.wire.specs.Message.{allOf, text, message}
+use Rattle.wire.specs.Message.{allOf, firstOf, text, message, whole}
 use Rattle.wire.proofs.Lists.{flat-flat}
 use Rattle.wire.proofs.Tells.{Tells, Any, any-all, tells-bind, tells-weaken, tells-seq, tells-if, tells-each}
-use Rattle.schema.specs.Numbers.{Graph·node, Graph·name, Graph·initializer, Graph·input, Graph·output, ValueInfo·name, Tensor·name, Node·input, Node·output, Node·op-type, Node·attribute, Attribute·name}
+use Rattle.schema.specs.Numbers.{Model·graph, Graph·node, Graph·name, Graph·initializer, Graph·input, Graph·output, ValueInfo·name, Tensor·name, Node·input, Node·output, Node·op-type, Node·attribute, Attribute·name}
 use Rattle.gate.specs.Names.{Name, nameIn, bodiesOf, inputsOf, bodiesIn}
-use Rattle.gate.specs.Walk.{Context, nestedIn, inMain, Walk, GraphJudge, withName, withNode, leaving, Along, along, naming, define}
+use Rattle.gate.specs.Walk.{Context, nestedIn, inMain, Walk, GraphJudge, start, withName, withNode, leaving, Along, along, naming, define}
 use Rattle.gate.specs.Types.{declaredType}
 use Rattle.gate.specs.Node.{nodeName, nodeInput, nodeOutput, body, attribute, node}
 use Rattle.gate.specs.Graph.{input, isDefault, defaultOrNew, initializer, output, graphWith, graph}
-use Rattle.gate.specs.Count.{nodesIn}
+use Rattle.gate.specs.Header.{header, secondWalkTo, secondWalk}
+use Rattle.gate.specs.Count.{nodesIn, nodesTo, nodeCount}
+use Rattle.gate.proofs.Bounds.{nodes-bound}
 
 -- any outcome at all
 any : {A : Type 0} (j : Judged A) → Tells Any Any j
@@ -132,3 +134,20 @@ unfolding graph nodesIn refused
 grows-depths model full zero more c w f = tt
 grows-depths model full (suc left) more c w f = rw add-suc
     (grows-graph model full c (graph model full left (nestedIn c)) (nodesIn model (more + left)) (λ w f. grows-depths model full left more (nestedIn c) w f) w f)
+
+-- ---- the whole second walk
+
+pub second-counts : (model list : Bytes) (full : ℕ → Bool) → Tells (λ w. w .nodes ≡ nodeCount model) Any (secondWalk model list full)
+unfolding secondWalk secondWalkTo refused nodesTo start
+second-counts model list full = rw (← (nodes-bound model (length model + 8) (omega arith)))
+    (after (λ w. w .nodes ≡ nodesTo model (length model + 8)) (header model list (message model (whole model))) _ (λ imports. go (record { imports = imports; main = true }) (firstOf Model·graph (message model (whole model)))))
+  where
+    count : Option Field → ℕ
+    count o = elim o [ none ↦ 0 | some g ↦ length (nodesIn model (length model + 8) g) ]
+
+    walked : Context → Option Field → Judged Walk
+    walked c o = elim o [ none ↦ refused 11 (message model (whole model) .place) | some g ↦ graph model full 8 c start g ]
+
+    go : (c : Context) (o : Option Field) → Tells (λ w. w .nodes ≡ count o) Any (walked c o)
+    go c none = tt
+    go c (some g) = tells-weaken (Grows (λ (w : Walk). w .nodes) start (nodesIn model (length model + 8) g)) (λ w. w .nodes ≡ count (some g)) Any Any (graph model full 8 c start g) (λ w e. omega arith) (λ r _. tt) (grows-depths model full 8 (length model) c start g)

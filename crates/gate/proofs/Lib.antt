@@ -10,3 +10,6 @@ pub mod Bounds
 pub mod Depth
 pub mod Cells
 pub mod Counting
+pub mod Proper
+pub mod Shared
+pub mod Demands
