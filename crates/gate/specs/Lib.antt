@@ -12,4 +12,5 @@ pub mod Refusals
 pub mod Demands
 pub mod Models
 pub mod Samples
+pub mod Judged
 pub mod Runs

@@ -4,8 +4,8 @@ use Prim.Native.Char.{Char, code}
 use Prim.Native.String as String
 use Prim.Native.String.{String}
 use mathlib.Core.Bool.{Bool, true, false}
-use mathlib.Core.List.{[], _∷_}
-use lib.Dec.{leb}
+use mathlib.Core.List.{List, [], _∷_}
+use lib.Dec.{leb, eqb}
 use Rattle.wire.specs.Bytes.{Bytes}
 
 -- A digit, `0` to `9` or `A` to `F`.
@@ -27,7 +27,18 @@ unfoldable pub ascii : String → Bytes
 ascii String.[] = []
 ascii (String._∷_ c more) = code c ∷ ascii more
 
+-- Words with one space between them; an empty word stands between two spaces.
+unfoldable pub split : String → Bytes × List Bytes
+split String.[] = ([], [])
+split (String._∷_ c more) =
+    let rest = split more in
+    elim (eqb (code c) 0x20) [ true ↦ ([], rest .0 ∷ rest .1) | false ↦ (code c ∷ rest .0, rest .1) ]
+
+unfoldable pub words : String → List Bytes
+words String.[] = []
+words (String._∷_ c more) = let parts = split (String._∷_ c more) in parts .0 ∷ parts .1
+
 -- All of this file, for whoever computes with it.
 unfoldable pub Notation·computes : Unit {0}
-unfolding digit pair hex ascii
+unfolding digit pair hex ascii split words
 Notation·computes = tt
