@@ -2,17 +2,16 @@
 -- the same.
 use Prim.Native.Nat.{ℕ, zero, suc, _+_, _≤_, _<_}
 use native.Mathlib.Omega.{arith}
-use mathlib.Core.Path.{_≡_, refl, sym, ap, _∙_}
+use mathlib.Core.Path.{_≡_, refl, ap}
 use mathlib.Core.Bool.{Bool, true, false, not}
 use mathlib.Core.List.{List, [], _∷_, _++_, map, flatMap}
 use mathlib.Core.Option.{Option, none, some}
 use lib.ListN.{length}
-use Rattle.wire.specs.Outcome.{Outcome, pass, fail, _>>=_, each}
+use Rattle.wire.specs.Outcome.{pass, each}
 use Rattle.wire.specs.declared.Field.{Field}
-use Rattle.wire.specs.Lists.{first, keep}
+use Rattle.wire.specs.Lists.{keep}
 use Rattle.wire.specs.Bytes.{Bytes, same, member}
 use Rattle.wire.specs.Message.{allOf, firstOf, message, whole}
-use Rattle.wire.specs.Order.{Ordered}
 use Rattle.wire.proofs.Lists.{All, If, all-map, all-first, all-mapped, all-append, all-flat, flat-agree}
 use Rattle.wire.proofs.Tells.{Any, any-all, each-agree}
 use Rattle.wire.proofs.Reading.{Fits}

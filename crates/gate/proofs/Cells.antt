@@ -1,19 +1,19 @@
 -- The cells: a model is accepted with some cells exactly when it is with no bound on them and the names visible together fit.
-use Prim.Native.Nat.{ℕ, zero, suc, _+_, _≤_, _<_, max, zero-le}
+use Prim.Native.Nat.{ℕ, zero, suc, _≤_, _<_, zero-le}
 use native.Mathlib.Omega.{arith}
 use mathlib.Core.Path.{_≡_, refl, sym, ap, _∙_, subst, subst⁻¹}
 use mathlib.Core.Logic.{_⊎_, inl, inr}
-use mathlib.Core.Bool.{Bool, true, false, not, _&&_}
+use mathlib.Core.Bool.{Bool, true, false, not}
 use mathlib.Core.List.{List, [], _∷_}
 use mathlib.Core.Option.{Option, none, some}
 use lib.ListN.{length}
 use mir.Facts.{no-leb}
 use lib.Dec.{T, leb, ltb, leb→le, nleb→lt, nltb→le}
-use Rattle.wire.specs.Outcome.{Outcome, pass, fail, _>>=_, _>>_, each, Refusal, Judged, Rule, refused, refuse_at:_when:_}
+use Rattle.wire.specs.Outcome.{pass, fail, _>>=_, _>>_, each, Refusal, Judged, Rule, refused, refuse_at:_when:_}
 use Rattle.wire.specs.declared.Field.{Field}
 use Rattle.wire.specs.Lists.{isEmpty}
 use Rattle.wire.specs.Bytes.{Bytes}
-use Rattle.wire.specs.Message.{Message, allOf, firstOf, text, message, whole}
+use Rattle.wire.specs.Message.{allOf, firstOf, text, message, whole}
 use Rattle.operators.specs.Operators.{sound}
 use Rattle.schema.specs.Numbers.{Model·graph, Graph·node, Graph·name, Graph·initializer, Graph·input, Graph·output, ValueInfo·name, Tensor·name, Node·input, Node·output, Node·op-type, Node·attribute, Attribute·name}
 use Rattle.schema.specs.FirstWalk.{firstWalk}

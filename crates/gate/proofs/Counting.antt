@@ -2,12 +2,12 @@
 use Prim.Native.Nat.{ℕ, zero, suc, _+_}
 use native.Mathlib.Omega.{arith}
 use native.Mathlib.Nat.{add-suc}
-use mathlib.Core.Path.{_≡_, refl, sym, ap, _∙_}
-use mathlib.Core.Bool.{Bool, true, false}
+use mathlib.Core.Path.{_≡_, refl, ap}
+use mathlib.Core.Bool.{Bool, true}
 use mathlib.Core.List.{List, [], _∷_, _++_, flatMap}
 use mathlib.Core.Option.{Option, none, some}
 use lib.ListN.{length, length-append}
-use Rattle.wire.specs.Outcome.{Outcome, pass, fail, _>>=_, _>>_, each, Refusal, Judged, Rule, refused, refuse_at:_when:_}
+use Rattle.wire.specs.Outcome.{pass, fail, _>>=_, _>>_, each, Judged, Rule, refused, refuse_at:_when:_}
 use Rattle.wire.specs.declared.Field.{Field}
 use Rattle.wire.specs.Lists.{isEmpty}
 use Rattle.wire.specs.Bytes.{Bytes}

@@ -3,7 +3,6 @@
 use mathlib.Core.Path.{_≡_, refl, sym, ap, _∙_}
 use mathlib.Core.Bool.{Bool, true, false, not, _&&_, _||_, and-true, and-false}
 use mathlib.Core.List.{List, [], _∷_}
-use lib.Dec.{T}
 use Rattle.wire.specs.Lists.{keep}
 use Rattle.wire.specs.Bytes.{Bytes, same, member}
 use Rattle.wire.proofs.Lists.{T-true, true-T}

@@ -1,13 +1,13 @@
 -- The demands, from their parts: Lockstep and Matching (judge beside runner), Choices, Traces, Bounds, Depth, Counting.
-use Prim.Native.Nat.{ℕ, zero, suc, _+_, _≤_}
+use Prim.Native.Nat.{ℕ, _+_}
 use native.Mathlib.Omega.{arith}
 use mathlib.Core.Path.{_≡_, refl, sym, ap, _∙_}
-use mathlib.Core.Bool.{Bool, true, false, not}
-use mathlib.Core.List.{List, [], _∷_, List·Memᴰ, List·Memᴰ·not-nil}
+use mathlib.Core.Bool.{Bool, true, not}
+use mathlib.Core.List.{List, [], List·Memᴰ·not-nil}
 use mathlib.Core.Option.{Option, none, some}
 use lib.ListN.{length}
 use lib.Dec.{ltb}
-use Rattle.wire.specs.Outcome.{Outcome, pass, fail, _>>=_, _>>_, Judged, refused, refuse_at:_when:_}
+use Rattle.wire.specs.Outcome.{pass, refused, refuse_at:_when:_}
 use Rattle.wire.specs.declared.Field.{Field}
 use Rattle.wire.specs.Lists.{contains}
 use Rattle.wire.specs.Bytes.{Bytes}
@@ -21,11 +21,11 @@ use Rattle.schema.specs.Numbers.{Model·graph}
 use Rattle.schema.specs.FirstWalk.{firstWalk}
 use Rattle.schema.proofs.Bound.{walk-bound}
 use Rattle.schema.proofs.Refusals.{FirstWalk·refusals, firstWalk-tells}
-use Rattle.gate.specs.Walk.{Context, Walk, start}
+use Rattle.gate.specs.Walk.{start}
 use Rattle.gate.specs.Graph.{graph}
 use Rattle.gate.specs.Header.{header, secondWalkTo, secondWalk}
 use Rattle.gate.specs.Verdict.{LARGEST, Counts, counts, fills, verdict}
-use Rattle.gate.specs.Runner.{Stop, Read, Run, Ran, begin, runGraph, runTo, run}
+use Rattle.gate.specs.Runner.{Run, begin, runGraph, runTo, run}
 use Rattle.gate.specs.Count.{nodeCount}
 use Rattle.gate.specs.Demands.{Faithful, Demand3, CountsTrue, BoundsNeverDecide}
 use Rattle.gate.proofs.Rules.{Header·refusals, header-tells}

@@ -1,28 +1,28 @@
 -- The depth of the second walk: the first walk lets no graph stand at depth 9, so depths beyond 8 change nothing.
-use Prim.Native.Nat.{ℕ, zero, suc, _+_, _-_, _≤_, _<_}
+use Prim.Native.Nat.{ℕ, zero, suc, _+_, _-_, _≤_}
 use native.Mathlib.Omega.{arith}
 use mathlib.Core.Path.{_≡_, refl, sym, ap, _∙_}
 use mathlib.Core.Logic.{_⊎_, inl, inr}
-use mathlib.Core.Bool.{Bool, true, false, not, _&&_, _||_}
-use mathlib.Core.List.{List, [], _∷_}
+use mathlib.Core.Bool.{Bool, true, _||_}
+use mathlib.Core.List.{[]}
 use mathlib.Core.Option.{Option, none, some}
 use native.Mathlib.Nat.{add-suc}
 use lib.Dec.{T, eqb, eqb→eq}
-use Rattle.wire.specs.Outcome.{Outcome, pass, fail, _>>=_, _>>_, each, Judged, Rule, refused, refuse_at:_when:_}
+use Rattle.wire.specs.Outcome.{Outcome, pass, _>>=_, Judged, refused}
 use Rattle.wire.specs.declared.Field.{Field}
-use Rattle.wire.specs.Lists.{first, keep, lookup, Lists·computes}
+use Rattle.wire.specs.Lists.{keep, lookup, Lists·computes}
 use Rattle.wire.specs.Bytes.{Bytes}
-use Rattle.wire.specs.Message.{Message, allOf, firstOf, message, whole}
+use Rattle.wire.specs.Message.{allOf, firstOf, message, whole}
 use Rattle.wire.proofs.Lists.{or-cases, All, If, all-map, all-first, all-kept}
 use Rattle.wire.proofs.Tells.{each-agree}
 use Rattle.schema.specs.Rows.{Kind, Model, Graph, Node, Attribute, rows, isGraph, Rows·computes}
-use Rattle.schema.specs.Numbers.{Model·graph, Graph·node, Graph·initializer, Graph·input, Graph·output, Graph·sparse-initializer, Graph·name, Node·attribute, Attribute·g, Attribute·graphs}
+use Rattle.schema.specs.Numbers.{Model·graph, Graph·node, Node·attribute, Attribute·g, Attribute·graphs}
 use Rattle.schema.specs.FirstWalk.{kindOf, deeper, walked, firstWalk}
 use Rattle.schema.proofs.Opened.{Sound, Opens, walked-opens}
-use Rattle.gate.specs.Names.{bodiesOf, inputsOf}
+use Rattle.gate.specs.Names.{bodiesOf}
 use Rattle.gate.specs.Walk.{Context, nestedIn, Walk, start, leaving, Along, along}
-use Rattle.gate.specs.Node.{nodeInput, body, attribute, node}
-use Rattle.gate.specs.Graph.{input, initializer, output, graphWith, graph}
+use Rattle.gate.specs.Node.{body, attribute, node}
+use Rattle.gate.specs.Graph.{graphWith, graph}
 use Rattle.gate.specs.Header.{header, secondWalkTo, secondWalk}
 
 bind-same : {E A B : Type 0} (o : Outcome E A) (f g : A → Outcome E B) → ((a : A) → f a ≡ g a) → (o >>= f) ≡ (o >>= g)

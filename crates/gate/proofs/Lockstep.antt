@@ -2,16 +2,15 @@
 use Prim.Native.Nat.{ℕ, zero, suc, _+_, max}
 use mathlib.Core.Path.{_≡_, refl, sym, ap, ap₂, _∙_}
 use mathlib.Core.Bool.{Bool, true, false, not, _||_, true≢false}
-use mathlib.Core.List.{List, [], _∷_, _++_, map, flatMap}
+use mathlib.Core.List.{List, [], _∷_}
 use mathlib.Core.Option.{Option, none, some}
 use native.Mathlib.Nat.{add-suc}
 use lib.ListN.{length}
 use Rattle.wire.specs.Outcome.{Outcome, pass, fail, _>>=_, _>>_, each, Judged, Rule, refused, refuse_at:_when:_}
 use Rattle.wire.specs.declared.Field.{Field}
-use Rattle.wire.specs.Lists.{isEmpty, present, contains, keep, within}
+use Rattle.wire.specs.Lists.{isEmpty, present, contains, keep}
 use Rattle.wire.specs.Bytes.{Bytes, same, member}
 use Rattle.wire.specs.Message.{Message, allOf, numberOf, placeOf, text, bytesOf, message}
-use Rattle.wire.proofs.Lists.{All}
 use Rattle.wire.proofs.Tells.{Any, any-all}
 use Rattle.schema.specs.Numbers.{Graph·name, Graph·node, Graph·initializer, Graph·input, Graph·output, Node·input, Node·output, Node·op-type, Node·attribute, Attribute·name, Tensor·name, Tensor·data-type, ValueInfo·name}
 use Rattle.gate.specs.Identifier.{identifier}
@@ -20,7 +19,7 @@ use Rattle.gate.specs.Walk.{Context, nestedIn, inMain, Walk, withName, w
 use Rattle.gate.specs.Types.{isElement, declaredType}
 use Rattle.gate.specs.Node.{nodeName, nodeInput, nodeOutput, body, attribute, node}
 use Rattle.gate.specs.Graph.{input, isDefault, defaultOrNew, initializer, output, graphWith, graph}
-use Rattle.gate.specs.Runner.{Action, binds, reads, visits, unlessEmpty, initializers, nodeScript, script, binding, reading, Run, Ran, find, withBound, withRead, bind, read, unchosen, choose, forget, perform, runGraph}
+use Rattle.gate.specs.Runner.{binds, reads, visits, unlessEmpty, initializers, nodeScript, script, reading, Run, Ran, find, withBound, withRead, bind, read, unchosen, choose, forget, perform, runGraph}
 use Rattle.gate.proofs.Rules.{Type·refusals, main-type-tells, nodeName-tells}
 use Rattle.gate.proofs.Matching.{stopOf, Matches, Quiet, quiet-among, quiet-rule, bind-matches, after-matches, seq-matches, then-pass, then-quiet, quiet-matches, quiet-then, each-matches, bind-assoc, bind-pass, each-append, each-map, each-flat}
 use Rattle.gate.proofs.Visits.{visit-once}

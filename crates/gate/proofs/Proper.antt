@@ -1,33 +1,31 @@
 -- Every refusal has a number of document 01's table, and place 0 or one inside the model.
-use Prim.Native.Nat.{ℕ, zero, suc, _+_, _≤_, _<_, zero-le}
+use Prim.Native.Nat.{ℕ, zero, suc, _<_, zero-le}
 use native.Mathlib.Omega.{arith}
-use mathlib.Core.Path.{_≡_, refl, sym, ap, _∙_}
+use mathlib.Core.Path.{_≡_, refl}
 use mathlib.Core.Logic.{_⊎_, inl, inr}
-use mathlib.Core.Bool.{Bool, true, false, not}
+use mathlib.Core.Bool.{Bool, true}
 use mathlib.Core.List.{List, [], _∷_}
-use mathlib.Core.Option.{Option, none, some}
 use lib.ListN.{length}
-use lib.Dec.{T, ltb}
-use Rattle.wire.specs.Outcome.{Outcome, pass, fail, _>>=_, _>>_, each, Refusal, Judged, Rule, refused, refuse_at:_when:_}
+use lib.Dec.{T}
+use Rattle.wire.specs.Outcome.{each, Refusal, refused}
 use Rattle.wire.specs.declared.Field.{Field}
 use Rattle.wire.specs.Lists.{isEmpty, contains}
 use Rattle.wire.specs.Bytes.{Bytes}
 use Rattle.wire.specs.Message.{Message, allOf, firstOf, text, message, whole}
-use Rattle.wire.proofs.Lists.{All, If, all-map, subset}
+use Rattle.wire.proofs.Lists.{All, all-map, subset}
 use Rattle.wire.proofs.Tells.{Tells, Any, Among, tells-bind, tells-weaken, tells-seq, tells-if, tells-option, tells-rule, tells-last, tells-each}
 use Rattle.wire.proofs.Reading.{Fits}
 use Rattle.wire.proofs.Fields.{message-ordered, ordered-all}
-use Rattle.operators.specs.Operators.{sound}
 use Rattle.schema.specs.Numbers.{Model·graph, Graph·node, Graph·name, Graph·initializer, Graph·input, Graph·output, Graph·sparse-initializer, ValueInfo·name, Tensor·name, Tensor·data-type, Node·input, Node·output, Node·op-type, Node·attribute, Node·domain, Attribute·name}
 use Rattle.schema.specs.FirstWalk.{firstWalk}
-use Rattle.schema.proofs.Refusals.{FirstWalk·refusals, Before, firstWalk-tells}
+use Rattle.schema.proofs.Refusals.{FirstWalk·refusals, firstWalk-tells}
 use Rattle.gate.specs.Names.{Name, nameOf, nameIn, bodiesOf, inputsOf}
-use Rattle.gate.specs.Walk.{Context, nestedIn, inMain, Walk, GraphJudge, start, withNode, leaving, Along, along, visible, naming, define}
+use Rattle.gate.specs.Walk.{Context, nestedIn, inMain, Walk, GraphJudge, start, Along, along, naming, define}
 use Rattle.gate.specs.Types.{declaredType}
 use Rattle.gate.specs.Node.{nodeName, nodeInput, nodeOutput, body, attribute, node}
 use Rattle.gate.specs.Graph.{input, isDefault, defaultOrNew, initializer, output, graphWith, graph}
 use Rattle.gate.specs.Header.{header, secondWalkTo, secondWalk}
-use Rattle.gate.specs.Verdict.{fills, counts, verdict}
+use Rattle.gate.specs.Verdict.{fills, verdict}
 use Rattle.gate.specs.Refusals.{refusals}
 use Rattle.gate.specs.Demands.{RefusedProperly}
 use Rattle.gate.proofs.Rules.{more-numbers, Type·refusals, Header·refusals, GoodMessage, good-message, good-all, good-bodies, good-first, good-place, naming-tells, main-type-tells, nodeName-tells, header-tells}

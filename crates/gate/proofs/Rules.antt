@@ -1,24 +1,21 @@
 -- Which numbers the rules refuse with, and at which places, over any property `Q` of places that holds of every field that the
 -- walk can come to: `Good` is a property of fields that passes on to the fields inside.
-use Prim.Native.Nat.{ℕ, zero, suc, _+_, _≤_, _<_}
+use Prim.Native.Nat.{ℕ}
 use mathlib.Core.Path.{_≡_, refl}
-use mathlib.Core.Bool.{Bool, true, false, not, _&&_}
 use mathlib.Core.List.{List, [], _∷_}
 use mathlib.Core.Option.{Option, none, some}
 use lib.Dec.{T, eqb, eqb-refl}
-use Rattle.wire.specs.Outcome.{Outcome, pass, fail, _>>=_, _>>_, each, Refusal, Judged, Rule, refused, refuse_at:_when:_}
+use Rattle.wire.specs.Outcome.{Judged, refused}
 use Rattle.wire.specs.declared.Field.{Field}
-use Rattle.wire.specs.Lists.{isEmpty, first, present, contains, within}
-use Rattle.wire.specs.Bytes.{Bytes, member}
-use Rattle.wire.specs.Message.{Message, allOf, firstOf, numberOf, placeOf, text, bytesOf, message, whole}
+use Rattle.wire.specs.Lists.{isEmpty, contains}
+use Rattle.wire.specs.Bytes.{Bytes}
+use Rattle.wire.specs.Message.{Message, allOf, firstOf, placeOf, bytesOf, message}
 use Rattle.wire.proofs.Lists.{or-left, or-right, All, If, all-keep, all-first, subset, contains-subset}
-use Rattle.wire.proofs.Tells.{Tells, Any, Among, tells-bind, tells-weaken, tells-seq, tells-if, tells-option, tells-rule, tells-last, tells-each}
-use Rattle.operators.specs.Operators.{domain, allows}
-use Rattle.schema.specs.Numbers.{Model·ir-version, Model·graph, Model·opset-import, Model·functions, ValueInfo·name, ValueInfo·type, TypeProto·tensor, TensorType·elem-type, TensorType·shape, Shape·dim, Dimension·dim-value, Dimension·dim-param, Node·name}
-use Rattle.gate.specs.Identifier.{identifier}
-use Rattle.gate.specs.Names.{Name, nameOf, nameIn, bodiesOf}
-use Rattle.gate.specs.Walk.{Context, inMain, Walk, naming}
-use Rattle.gate.specs.Types.{negative, isElement, dim, tensorType, declaredType}
+use Rattle.wire.proofs.Tells.{Tells, Any, Among, tells-bind, tells-weaken, tells-if, tells-option, tells-rule, tells-last, tells-each}
+use Rattle.schema.specs.Numbers.{Model·ir-version, Model·opset-import, Model·functions, ValueInfo·type, TypeProto·tensor, TensorType·elem-type, TensorType·shape, Shape·dim, Dimension·dim-value, Dimension·dim-param, Node·name}
+use Rattle.gate.specs.Names.{nameOf, bodiesOf}
+use Rattle.gate.specs.Walk.{Context, inMain, naming}
+use Rattle.gate.specs.Types.{dim, tensorType, declaredType}
 use Rattle.gate.specs.Node.{nodeName}
 use Rattle.gate.specs.Header.{opsetImport, header}
 

@@ -5,12 +5,12 @@ use mathlib.Core.Path.{_≡_, refl, sym, ap, _∙_}
 use mathlib.Core.Logic.{_⊎_, inl, inr}
 use mathlib.Core.Bool.{Bool, true, false, not}
 use mathlib.Core.List.{List, [], _∷_, _++_, map, map-append, flatMap}
-use mathlib.Core.Option.{Option, none, some}
+use mathlib.Core.Option.{none, some}
 use lib.Dec.{T, eqb, eqb→eq}
 use Rattle.wire.specs.declared.Field.{Field}
 use Rattle.wire.specs.Lists.{first, keep}
 use Rattle.wire.specs.Bytes.{Bytes, same, member}
-use Rattle.wire.specs.Message.{Message, allOf, firstOf, placeOf, text, message}
+use Rattle.wire.specs.Message.{allOf, firstOf, placeOf, text, message}
 use Rattle.wire.specs.Order.{Ordered}
 use Rattle.wire.proofs.Lists.{true-T, All, all-append, all-flat, all-mapped}
 use Rattle.wire.proofs.Tells.{Any, any-all}

@@ -3,16 +3,15 @@ use Prim.Native.Nat.{ℕ}
 use mathlib.Core.Path.{_≡_, refl, sym, ap, _∙_}
 use mathlib.Core.Logic.{_↔_, _⊎_, inl, inr}
 use mathlib.Core.Bool.{Bool, true, false, _||_, true≢false}
-use mathlib.Core.List.{List, [], _∷_, _++_, List·Memᴰ, List·Memᴰ·head, List·Memᴰ·tail, List·Memᴰ·not-nil, List·Memᴰ·cases-cons}
+use mathlib.Core.List.{List, [], _∷_, _++_, List·Memᴰ, List·Memᴰ·not-nil, List·Memᴰ·cases-cons}
 use mathlib.Core.Option.{Option, none, some}
 use lib.Dec.{T, eqb, eqb→eq, eqb-refl}
 use Rattle.wire.specs.declared.Field.{Field}
 use Rattle.wire.specs.Lists.{present, keep}
 use Rattle.wire.specs.Bytes.{Bytes, same}
-use Rattle.wire.specs.Message.{Message, allOf, message}
-use Rattle.wire.specs.Order.{Ordered}
+use Rattle.wire.specs.Message.{allOf, message}
 use Rattle.wire.proofs.Lists.{true-T, or-cases, or-left, or-right, keep-exactly}
-use Rattle.wire.proofs.Bytes.{same→eq, same-refl, same-exactly, member-exactly}
+use Rattle.wire.proofs.Bytes.{same→eq, same-exactly, member-exactly}
 use Rattle.wire.proofs.Fields.{message-ordered, keep-ordered, all-of-ordered}
 use Rattle.schema.specs.Numbers.{Attribute·g, Attribute·graphs}
 use Rattle.gate.specs.Names.{Name, bodiesOf}

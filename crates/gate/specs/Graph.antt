@@ -1,12 +1,12 @@
 -- The second walk of document 01 over a graph.
 use Prim.Native.Nat.{ℕ, zero, suc}
 use mathlib.Core.Bool.{Bool, true, false, not, _&&_}
-use mathlib.Core.List.{List, [], _∷_}
-use Rattle.wire.specs.Outcome.{pass, fail, _>>=_, _>>_, each, Judged, Rule, refused, refuse_at:_when:_}
+use mathlib.Core.List.{List, _∷_}
+use Rattle.wire.specs.Outcome.{pass, _>>=_, _>>_, each, Judged, Rule, refused, refuse_at:_when:_}
 use Rattle.wire.specs.declared.Field.{Field}
 use Rattle.wire.specs.Lists.{present}
 use Rattle.wire.specs.Bytes.{Bytes, member}
-use Rattle.wire.specs.Message.{Message, allOf, firstOf, numberOf, placeOf, message}
+use Rattle.wire.specs.Message.{allOf, firstOf, numberOf, placeOf, message}
 use Rattle.schema.specs.Numbers.{Graph·node, Graph·name, Graph·initializer, Graph·input, Graph·output, Graph·sparse-initializer, ValueInfo·name, Tensor·name, Tensor·data-type}
 use Rattle.gate.specs.Names.{Name, inputsOf}
 use Rattle.gate.specs.Walk.{Context, nestedIn, inMain, Walk, GraphJudge, Along, along, visible, naming, define}

@@ -1,16 +1,16 @@
 -- Document 01, "Second walk: header, then graphs".
 use Prim.Native.Nat.{ℕ}
-use mathlib.Core.Bool.{Bool, true, false, not}
+use mathlib.Core.Bool.{Bool, true, not}
 use mathlib.Core.List.{List, [], _∷_}
 use mathlib.Core.Option.{none, some}
-use Rattle.wire.specs.Outcome.{pass, fail, _>>=_, _>>_, each, Judged, refused, refuse_at:_when:_}
+use Rattle.wire.specs.Outcome.{pass, _>>=_, _>>_, each, Judged, refused, refuse_at:_when:_}
 use Rattle.wire.specs.declared.Field.{Field}
 use Rattle.wire.specs.Lists.{isEmpty, present, within}
 use Rattle.wire.specs.Bytes.{Bytes, member}
 use Rattle.wire.specs.Message.{Message, allOf, firstOf, numberOf, placeOf, bytesOf, message, whole}
 use Rattle.operators.specs.Operators.{domain, allows}
 use Rattle.schema.specs.Numbers.{Model·ir-version, Model·graph, Model·opset-import, Model·functions, OperatorSetId·domain, OperatorSetId·version}
-use Rattle.gate.specs.Walk.{Context, Walk, start}
+use Rattle.gate.specs.Walk.{Walk, start}
 use Rattle.gate.specs.Graph.{graph, Graph·computes}
 
 module _ (model list : Bytes) where

@@ -8,7 +8,7 @@ use Rattle.wire.specs.Outcome.{pass, Judged, refused}
 use Rattle.wire.specs.Bytes.{Bytes}
 use Rattle.wire.specs.Notation.{hex, ascii}
 use Rattle.operators.specs.Samples.{L}
-use Rattle.schema.specs.Numbers.{Model·ir-version, Model·graph, Model·opset-import, OperatorSetId·domain, OperatorSetId·version, Graph·node, Graph·name, Graph·initializer, Graph·input, Graph·output, Graph·sparse-initializer, Node·input, Node·output, Node·name, Node·op-type, Node·attribute, Node·domain, Attribute·name, Attribute·g, Tensor·name, Tensor·data-type, ValueInfo·name, ValueInfo·type, TypeProto·tensor, TensorType·elem-type, TensorType·shape, Shape·dim, Dimension·dim-value, Dimension·dim-param}
+use Rattle.schema.specs.Numbers.{Model·ir-version, Model·graph, Model·opset-import, OperatorSetId·domain, OperatorSetId·version, Graph·node, Graph·name, Graph·initializer, Graph·input, Graph·output, Graph·sparse-initializer, Node·output, Node·name, Node·op-type, Node·attribute, Node·domain, Attribute·name, Tensor·name, ValueInfo·name, ValueInfo·type, TypeProto·tensor, TensorType·elem-type, TensorType·shape, Shape·dim, Dimension·dim-param}
 use Rattle.gate.specs.Models.{held, counted, value, tensor, body, node, graph, model, Models·computes}
 use Rattle.gate.specs.Verdict.{Counts, verdict, Verdict·computes}
 
@@ -99,6 +99,20 @@ judged =
     ∷ (attributed (hex "AA 01 01 61"), 1, refused 33 16)
     ∷ (attributed (hex "AA 01 00 A0 01 03 22 00"), 1, accepted 1 1)
     ∷ (noded (op ++ body "a" (graph "" "" [] "") ++ body "a" (graph "" "" [] "") ++ out), 1, refused 31 31)
+    -- a nested graph: no default in it, and the greatest count may lie there
+    ∷ (model (graph "x" "" (node "" (body "do" (graph "i" "i" [] "i") ∷ []) "y" ∷ []) "y"), 9, refused 23 57)
+    ∷ (model (graph "x" "" (node "" (body "do" (graph "i j" "k" [] "k") ∷ []) "y" ∷ []) "y"), 4, accepted 1 4)
+    ∷ (model (graph "x" "" (node "" (body "do" (graph "i j" "k" [] "k") ∷ []) "y" ∷ []) "y"), 3, refused 40 70)
+    -- "Shortcuts that let a bad graph through", each beside a good graph
+    ∷ (model (graph "x" "" (node "" (body "do" (graph "" "" (node "y" [] "t" ∷ []) "t") ∷ []) "y" ∷ []) "y"), 9, refused 30 42)
+    ∷ (model (graph "x" "" (node "" (body "do" (graph "" "" (node "x" [] "t" ∷ []) "t") ∷ []) "y" ∷ []) "y"), 9, accepted 2 2)
+    ∷ (model (node "x w" [] "y" ++ held Graph·output (value (ascii "y")) ++ held Graph·initializer (tensor (ascii "w")) ++ held Graph·input (value (ascii "x")) ++ named), 9, accepted 1 3)
+    ∷ (model (graph "x" "" (node "y" [] "a" ∷ node "x" [] "y" ∷ []) "y"), 9, refused 30 26)
+    ∷ (model (graph "x" "" (node "" (body "then" (graph "" "t" [] "t") ∷ body "else" (graph "" "" [] "t") ∷ []) "y" ∷ []) "y"), 9, refused 35 80)
+    ∷ (model (graph "x" "" (node "" (body "then" (graph "" "t" [] "t") ∷ body "else" (graph "" "t" [] "t") ∷ []) "y" ∷ []) "y"), 9, accepted 1 2)
+    ∷ (model (graph "x" "" (node "" (body "do" (graph "" "t" [] "t") ∷ []) "y" ∷ node "t" [] "z" ∷ []) "y"), 9, refused 30 68)
+    ∷ (model (graph "x" "x" (node "x" [] "y" ∷ []) "y"), 2, accepted 1 2)
+    ∷ (model (graph "w" "" (node "w" [] "w1" ∷ node "w1" [] "y" ∷ []) "y"), 9, accepted 2 3)
     ∷ []
 
 judged-hold : map (λ s. verdict (s .0) L (s .1)) judged ≡ map (λ s. s .2) judged

@@ -1,7 +1,7 @@
 -- Small models put together from their parts. Only samples use this.
 use Prim.Native.Nat.{ℕ, _+_, _*_, _/_, _%_}
 use Prim.Native.String.{String}
-use mathlib.Core.Bool.{Bool, true, false}
+use mathlib.Core.Bool.{true, false}
 use mathlib.Core.List.{List, [], _∷_, _++_, flatMap}
 use lib.ListN.{length}
 use lib.Dec.{ltb}

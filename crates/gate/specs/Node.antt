@@ -4,7 +4,7 @@ use mathlib.Core.Bool.{Bool, true, false, not, _&&_, _||_}
 use mathlib.Core.List.{List, [], _∷_}
 use mathlib.Core.Option.{none, some}
 use lib.Dec.{eqb}
-use Rattle.wire.specs.Outcome.{pass, fail, _>>=_, _>>_, each, Judged, Rule, refuse_at:_when:_}
+use Rattle.wire.specs.Outcome.{pass, _>>=_, _>>_, each, Judged, Rule, refuse_at:_when:_}
 use Rattle.wire.specs.declared.Field.{Field}
 use Rattle.wire.specs.Lists.{isEmpty, contains, lookup}
 use Rattle.wire.specs.Bytes.{Bytes, member}

@@ -1,12 +1,11 @@
 -- Runs of the runner, evaluated.
 use Prim.Native.Nat.{ℕ}
-use Prim.Native.String.{String}
 use mathlib.Core.Path.{_≡_, refl}
 use mathlib.Core.List.{List, [], _∷_, map, reverse}
 use Rattle.wire.specs.Outcome.{Outcome, pass, fail}
 use Rattle.wire.specs.Bytes.{Bytes}
 use Rattle.gate.specs.Models.{body, node, graph, model, Models·computes}
-use Rattle.gate.specs.Runner.{Read, Stop, binding, reading, Run, Ran, run, Runner·computes}
+use Rattle.gate.specs.Runner.{Stop, binding, reading, Ran, run, Runner·computes}
 
 -- The reads of a run in the order in which they were made, each as the place of the field and the place that it found.
 told : Ran → Outcome Stop (List (ℕ × ℕ))

@@ -4,7 +4,7 @@ use Prim.Native.Nat.{ℕ, _^_}
 use mathlib.Core.Bool.{Bool, not, _&&_}
 use mathlib.Core.Option.{none, some}
 use lib.Dec.{leb}
-use Rattle.wire.specs.Outcome.{pass, fail, _>>=_, _>>_, each, Rule, refused, refuse_at:_when:_}
+use Rattle.wire.specs.Outcome.{_>>_, each, Rule, refused, refuse_at:_when:_}
 use Rattle.wire.specs.declared.Field.{Field}
 use Rattle.wire.specs.Lists.{present, within}
 use Rattle.wire.specs.Bytes.{Bytes}

@@ -1,5 +1,5 @@
 -- The entries of an operator list: a bound from the bytes left on changes nothing.
-use Prim.Native.Nat.{ℕ, zero, suc, _+_, _-_, _≤_, _<_}
+use Prim.Native.Nat.{ℕ, zero, suc, _+_, _-_, _≤_}
 use native.Mathlib.Omega.{arith}
 use mathlib.Core.Path.{_≡_, refl, sym, ap}
 use mathlib.Core.Bool.{Bool, true, false}
@@ -8,7 +8,7 @@ use lib.ListN.{length}
 use lib.Dec.{leb, le→leb}
 use Rattle.wire.specs.Bytes.{Bytes}
 use Rattle.wire.proofs.Lists.{T-true}
-use Rattle.operators.specs.Operators.{two, after, entriesFrom, entriesAt}
+use Rattle.operators.specs.Operators.{after, entriesFrom, entriesAt}
 
 module _ (list : Bytes) where
   entries-end : (n pos : ℕ) → length list ≤ pos → entriesFrom list n pos ≡ []

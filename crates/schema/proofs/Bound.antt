@@ -2,21 +2,20 @@
 use Prim.Native.Nat.{ℕ, zero, suc, _+_, _-_, _≤_, _<_}
 use native.Mathlib.Omega.{arith}
 use mathlib.Core.Path.{_≡_, refl, sym, ap, _∙_}
-use mathlib.Core.Bool.{Bool, true, false, _&&_}
-use mathlib.Core.List.{List, [], _∷_}
+use mathlib.Core.Bool.{true, false, _&&_}
+use mathlib.Core.List.{List, []}
 use mathlib.Core.Option.{Option, none, some}
 use lib.Dec.{leb, le→leb, eqb}
-use Rattle.wire.specs.Outcome.{Outcome, pass, fail, _>>=_, _>>_, Refusal, Judged, Rule, refuse_at:_when:_}
+use Rattle.wire.specs.Outcome.{pass, fail, _>>=_, _>>_, Refusal, Judged, Rule, refuse_at:_when:_}
 use Rattle.wire.specs.Lists.{lookup}
 use Rattle.wire.specs.Bytes.{Bytes}
 use Rattle.wire.specs.Wire.{tag, value}
-use Rattle.wire.specs.declared.Tag.{Tag}
 use Rattle.wire.specs.declared.Field.{Field}
 use Rattle.wire.proofs.Lists.{T-true}
 use Rattle.wire.proofs.Tells.{Tells}
 use Rattle.wire.proofs.Reading.{AtTag, Follows, tag-tells, value-tells}
-use Rattle.schema.specs.Rows.{Kind, Row, rows, isGraph}
-use Rattle.schema.specs.FirstWalk.{wrongWire, slotOf, taken, take-up, kindOf, deeper, contents, turn, walk, walked}
+use Rattle.schema.specs.Rows.{Kind, rows, isGraph}
+use Rattle.schema.specs.FirstWalk.{slotOf, take-up, kindOf, deeper, contents, turn, walk, walked}
 
 -- two continuations that agree on what a reading tells
 module _ {A B : Type 0} (Q : A → Type 0) (P : Refusal → Type 0) where

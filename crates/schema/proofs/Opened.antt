@@ -1,22 +1,21 @@
 -- What a passed first walk says of every message that it opened: it was walked too and passed, and no graph stands at depth 9.
 use Prim.Native.Nat.{ℕ, zero, suc, _+_, _-_, _≤_, _<_}
 use native.Mathlib.Omega.{arith}
-use mathlib.Core.Path.{_≡_, refl, sym, ap, _∙_}
+use mathlib.Core.Path.{_≡_, sym, _∙_}
 use mathlib.Core.Bool.{Bool, true, false, not, _&&_}
 use mathlib.Core.List.{List, [], _∷_}
 use mathlib.Core.Option.{Option, none, some}
 use lib.Dec.{T, leb, eqb}
-use Rattle.wire.specs.Outcome.{Outcome, pass, fail, _>>=_, _>>_, Refusal, Judged, Rule, refuse_at:_when:_}
+use Rattle.wire.specs.Outcome.{pass, fail, _>>=_, Rule, refuse_at:_when:_}
 use Rattle.wire.specs.Lists.{lookup}
 use Rattle.wire.specs.Bytes.{Bytes}
 use Rattle.wire.specs.Wire.{tag, value, field, fieldsFrom, fields}
 use Rattle.wire.specs.declared.Tag.{Tag}
 use Rattle.wire.specs.declared.Field.{Field}
 use Rattle.wire.proofs.Lists.{All, If}
-use Rattle.wire.proofs.Tells.{Tells}
-use Rattle.wire.proofs.Passing.{fail-no-pass, passed-bind, passed-seq, passed-rule, passed-tells}
+use Rattle.wire.proofs.Passing.{passed-bind, passed-seq, passed-rule, passed-tells}
 use Rattle.wire.proofs.Reading.{AtTag, Follows, tag-tells, value-tells}
-use Rattle.schema.specs.Rows.{Kind, Row, rows, isGraph}
+use Rattle.schema.specs.Rows.{Kind, rows, isGraph}
 use Rattle.schema.specs.FirstWalk.{wrongWire, slotOf, taken, take-up, kindOf, deeper, contents, turn, walk, walked}
 use Rattle.schema.proofs.Bound.{walk-bound}
 

@@ -1,23 +1,21 @@
 -- The first walk refuses with 1 to 6, inside the message that it walks.
-use Prim.Native.Nat.{ℕ, zero, suc, _+_, _-_, _≤_, _<_}
+use Prim.Native.Nat.{ℕ, zero, suc, _≤_, _<_}
 use native.Mathlib.Omega.{arith}
-use mathlib.Core.Path.{_≡_, refl, sym, ap, _∙_}
-use mathlib.Core.Bool.{Bool, true, false, _&&_}
+use mathlib.Core.Path.{_≡_}
 use mathlib.Core.List.{List, [], _∷_}
 use mathlib.Core.Option.{Option, none, some}
 use lib.ListN.{length}
-use lib.Dec.{T, leb, nleb→lt, eqb}
-use Rattle.wire.specs.Outcome.{Outcome, pass, fail, _>>=_, _>>_, Refusal, Judged, Rule, refuse_at:_when:_}
+use lib.Dec.{leb, nleb→lt}
+use Rattle.wire.specs.Outcome.{Refusal, Rule}
 use Rattle.wire.specs.Lists.{contains, lookup}
 use Rattle.wire.specs.Bytes.{Bytes}
 use Rattle.wire.specs.Wire.{tag, value}
-use Rattle.wire.specs.declared.Tag.{Tag}
 use Rattle.wire.specs.declared.Field.{Field}
 use Rattle.wire.proofs.Lists.{subset, contains-subset}
-use Rattle.wire.proofs.Tells.{Tells, Any, Among, tells-bind, tells-weaken, tells-seq, tells-rule, tells-if}
+use Rattle.wire.proofs.Tells.{Tells, Any, Among, tells-bind, tells-weaken, tells-rule, tells-if}
 use Rattle.wire.proofs.Reading.{Wire·refusals, AtTag, Follows, tag-tells, value-tells}
-use Rattle.schema.specs.Rows.{Kind, Row, rows, isGraph}
-use Rattle.schema.specs.FirstWalk.{slotOf, take-up, kindOf, deeper, contents, turn, walk, walked, firstWalk}
+use Rattle.schema.specs.Rows.{Kind, rows}
+use Rattle.schema.specs.FirstWalk.{kindOf, deeper, contents, turn, walk, walked, firstWalk}
 
 abbrev pub FirstWalk·refusals : List ℕ
 FirstWalk·refusals = 1 ∷ 2 ∷ 3 ∷ 4 ∷ 5 ∷ 6 ∷ []

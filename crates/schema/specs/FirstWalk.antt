@@ -5,11 +5,10 @@ use mathlib.Core.List.{List, [], _∷_}
 use mathlib.Core.Option.{Option, none, some}
 use lib.ListN.{length}
 use lib.Dec.{leb, eqb}
-use Rattle.wire.specs.Outcome.{pass, fail, _>>=_, _>>_, Rule, refuse_at:_when:_}
+use Rattle.wire.specs.Outcome.{pass, _>>=_, _>>_, Rule, refuse_at:_when:_}
 use Rattle.wire.specs.Lists.{contains, lookup}
 use Rattle.wire.specs.Bytes.{Bytes}
 use Rattle.wire.specs.Wire.{VARINT, LEN, I32, tag, value, Wire·computes}
-use Rattle.wire.specs.declared.Tag.{Tag}
 use Rattle.wire.specs.declared.Field.{Field}
 use Rattle.schema.specs.Rows.{Kind, Model, Holds, varint, bytes, four, opens, Row, once, many, packable, oneOf, rows, holds, opened, isGraph, Rows·computes}
 

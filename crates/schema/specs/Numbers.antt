@@ -3,9 +3,9 @@ use Prim.Native.Nat.{ℕ}
 use Prim.Native.String.{String}
 use mathlib.Core.Path.{_≡_, refl}
 use mathlib.Core.List.{List, [], _∷_, map}
-use mathlib.Core.Option.{Option, none, some}
+use mathlib.Core.Option.{none, some}
 use Rattle.wire.specs.Lists.{lookup, Lists·computes}
-use Rattle.schema.specs.Rows.{Kind, Model, OperatorSetId, Graph, Node, Attribute, Tensor, ValueInfo, TypeProto, TensorType, Shape, Dimension, Row, once, many, packable, oneOf, rows}
+use Rattle.schema.specs.Rows.{Kind, Model, OperatorSetId, Graph, Node, Attribute, Tensor, ValueInfo, TypeProto, TensorType, Shape, Dimension, once, many, packable, oneOf, rows}
 
 abbrev pub Model·ir-version : ℕ
 Model·ir-version = 1

@@ -1,9 +1,9 @@
 -- The table of rows, printed as document 01 prints it: a wrong row cannot hide.
-use Prim.Native.Nat.{ℕ, _+_, _/_, _%_}
+use Prim.Native.Nat.{ℕ, _/_, _%_}
 use Prim.Native.String as String
 use Prim.Native.String.{String, _++_}
 use mathlib.Core.Path.{_≡_, refl}
-use mathlib.Core.Bool.{Bool, true, false}
+use mathlib.Core.Bool.{true, false}
 use mathlib.Core.List.{List, [], _∷_, map}
 use lib.ListN.{getD}
 use lib.Dec.{ltb}

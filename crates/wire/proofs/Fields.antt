@@ -4,8 +4,7 @@ use native.Mathlib.Omega.{arith}
 use mathlib.Core.Path.{_≡_, refl, sym, ap, _∙_}
 use mathlib.Core.Bool.{Bool, true, false}
 use mathlib.Core.List.{List, [], _∷_, _++_, flatMap}
-use lib.ListN.{length}
-use lib.Dec.{T, leb, le→leb}
+use lib.Dec.{leb, le→leb}
 use mir.Facts.{no-leb}
 use Rattle.wire.specs.Outcome.{pass, fail, Refusal, Judged}
 use Rattle.wire.specs.Lists.{keep}

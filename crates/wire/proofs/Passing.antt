@@ -1,11 +1,9 @@
 -- What follows where a chain of rules has passed: each of them did.
 use Prim.Native.Nat.{ℕ}
-use mathlib.Core.Path.{_≡_, refl, sym, ap, _∙_, subst}
+use mathlib.Core.Path.{_≡_, refl, sym, subst}
 use mathlib.Core.Bool.{Bool, true, false, not}
-use mathlib.Core.List.{List, [], _∷_}
-use mathlib.Core.Option.{Option, none, some}
 use lib.Dec.{T}
-use Rattle.wire.specs.Outcome.{Outcome, pass, fail, _>>=_, _>>_, Rule, refuse_at:_when:_}
+use Rattle.wire.specs.Outcome.{Outcome, pass, fail, _>>=_, _>>_, refuse_at:_when:_}
 use Rattle.wire.proofs.Tells.{Tells}
 
 -- a fault is no pass

@@ -1,14 +1,13 @@
 -- What the readers of the wire tell: where what they read lies, and which refusals they give.
-use Prim.Native.Nat.{ℕ, zero, suc, _+_, _-_, _*_, _/_, _%_, _^_, _≤_, _<_}
+use Prim.Native.Nat.{ℕ, zero, suc, _+_, _≤_, _<_}
 use native.Mathlib.Omega.{arith}
 use mathlib.Core.Path.{_≡_, refl}
-use mathlib.Core.Bool.{Bool, true, false, not}
 use mathlib.Core.List.{List, [], _∷_}
-use lib.Dec.{T, leb, ltb, eqb, nltb→le}
-use Rattle.wire.specs.Outcome.{pass, fail, _>>=_, _>>_, Refusal, Judged, refused, refuse_at:_when:_}
+use lib.Dec.{ltb, eqb, nltb→le}
+use Rattle.wire.specs.Outcome.{pass, fail, _>>=_, Refusal, Judged, refused}
 use Rattle.wire.specs.Lists.{contains}
 use Rattle.wire.specs.Bytes.{Bytes, byte}
-use Rattle.wire.specs.Wire.{Varint, VARINT, I64, LEN, I32, varintFrom, varint, badTag, tag, sized, value, field}
+use Rattle.wire.specs.Wire.{Varint, varintFrom, varint, tag, sized, value, field}
 use Rattle.wire.specs.declared.Tag.{Tag}
 use Rattle.wire.specs.declared.Field.{Field}
 use Rattle.wire.proofs.Tells.{Tells, Among, tells-bind, tells-rule, tells-if}

@@ -5,3 +5,4 @@ pub mod Wire
 pub mod Message
 pub mod Order
 pub mod Notation
+pub mod Samples

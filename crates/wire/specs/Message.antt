@@ -1,6 +1,5 @@
 -- A message that is opened: its fields by number. "An absent number reads as 0, absent bytes as empty."
 use Prim.Native.Nat.{ℕ, _-_}
-use mathlib.Core.Bool.{Bool}
 use mathlib.Core.List.{List, []}
 use mathlib.Core.Option.{Option, none, some}
 use lib.ListN.{length}
