@@ -91,7 +91,7 @@ judged =
     ∷ (noded (op ++ held Node·output []), 0, accepted 1 0)
     -- attributes
     ∷ (noded (op ++ held Node·attribute [] ++ out), 1, refused 22 16)
-    ∷ (attributed (hex "A0 01 02") , 1, accepted 1 1)
+    ∷ (attributed (hex "A0 01 02"), 1, accepted 1 1)
     ∷ (attributed [], 1, refused 32 16)
     ∷ (attributed (hex "A0 01 0F"), 1, refused 32 16)
     ∷ (attributed (hex "A0 01 02 22 00"), 1, refused 32 16)

@@ -1,5 +1,6 @@
 -- Document 01, "The plain runner": it is fed the model bytes and a list of choices, binds and reads names, "and runs no judge". A
--- graph is first taken for its script, the list of what it does, and a small machine performs the script.
+-- graph is first taken for its script, the list of what it does, and a small machine performs the script. Plain runner, choice,
+-- body, visit and defining place are document 01's terms; script and action are ours.
 use Prim.Native.Nat.{ℕ, zero, suc, _+_, max}
 use mathlib.Core.Bool.{Bool, true, false, not}
 use mathlib.Core.List.{List, [], _∷_, _++_, map, flatMap}
@@ -15,7 +16,7 @@ use Rattle.gate.specs.Names.{Name, nameOf, nameIn, inputsOf, bodiesIn, N
 
 -- ---- the script of a graph
 
--- Visits are to nested bodies; "body" and "visit" are document 01's words.
+-- What a graph does: it binds or reads a name, or visits a nested body.
 pub data Action : Type 0 where
   binds reads : Name → Action
   visits : Field → Action

@@ -23,7 +23,7 @@ counts w = record { nodes = w .nodes; names = w .most }
 abbrev pub LARGEST : ℕ
 LARGEST = 67_108_864
 
--- "visible names already equal the cells"
+-- "visible names already equal the cells". Cells, document 01's term, are what the caller lends: one holds one visible name.
 unfoldable pub fills : (cells visible : ℕ) → Bool
 fills cells visible = leb cells visible
 

@@ -1,4 +1,5 @@
--- Document 01, "First walk: the wire": "The whole model is walked in byte order, depth first."
+-- Document 01, "First walk: the wire": "The whole model is walked in byte order, depth first." First walk and second walk are the
+-- document's terms.
 use Prim.Native.Nat.{ℕ, zero, suc, _+_, _-_}
 use mathlib.Core.Bool.{Bool, true, false, not, _&&_}
 use mathlib.Core.List.{List, [], _∷_}

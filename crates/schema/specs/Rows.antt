@@ -1,5 +1,5 @@
--- Document 01, "Rows (v varint, s bytes, m opened message, f four bytes, * may repeat)". Page.antt prints this table back as the
--- document has it.
+-- Document 01, "Rows (v varint, s bytes, m opened message, f four bytes, * may repeat)". A row is document 01's
+-- term for a field that a kind of message may have. Page.antt prints this table back as the document has it.
 use Prim.Native.Nat.{ℕ}
 use Prim.Native.String.{String}
 use mathlib.Core.Bool.{Bool, true, false}

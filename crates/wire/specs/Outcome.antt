@@ -23,7 +23,7 @@ unfoldable pub each : {E A S : Type 0} → (S → A → Outcome E S) → S → L
 each step s [] = pass s
 each step s (a ∷ more) = step s a >>= λ t. each step t more
 
--- "*refused* with a number and a place"
+-- "*refused* with a number and a place". Number and place are document 01's terms: a place is a byte offset in the model.
 pub record Refusal : Type 0 where
   pub number : ℕ
   pub place : ℕ
