@@ -1,5 +1,5 @@
 -- What is claimed of the definitions, as types. Each is proved in proofs/ under the name of its type with a small first letter.
-use Prim.Native.Nat.{ℕ, _+_, _≤_, _<_}
+use Prim.Native.Nat.{ℕ, _+_, _-_, _≤_, _<_, min}
 use mathlib.Core.Path.{_≡_}
 use mathlib.Core.Logic.{_↔_, _⊎_}
 use mathlib.Core.Bool.{Bool, true, false}
@@ -10,15 +10,15 @@ use lib.Dec.{T}
 use Rattle.wire.specs.Outcome.{pass, fail, Refusal, refused}
 use Rattle.wire.specs.declared.Field.{Field}
 use Rattle.wire.specs.Lists.{contains}
-use Rattle.wire.specs.Bytes.{Bytes, same, member}
+use Rattle.wire.specs.Bytes.{Bytes, byte, same, member}
 use Rattle.wire.specs.Wire.{fieldsFrom, fields}
-use Rattle.wire.specs.Message.{Message, allOf, message}
+use Rattle.wire.specs.Message.{Message, allOf, firstOf, text, message}
 use Rattle.wire.specs.Order.{Ordered}
 use Rattle.operators.specs.Operators.{sound, entriesFrom, entriesAt}
 use Rattle.schema.specs.Rows.{Kind}
-use Rattle.schema.specs.Numbers.{Attribute·g, Attribute·graphs}
+use Rattle.schema.specs.Numbers.{Graph·input, ValueInfo·name, Attribute·g, Attribute·graphs}
 use Rattle.schema.specs.FirstWalk.{walk, walked, firstWalk}
-use Rattle.gate.specs.Names.{Name, bodiesOf}
+use Rattle.gate.specs.Names.{Name, bodiesOf, nameOf, nameIn, inputsOf}
 use Rattle.gate.specs.Walk.{Walk}
 use Rattle.gate.specs.Header.{secondWalkTo, secondWalk}
 use Rattle.gate.specs.Verdict.{LARGEST, Counts, counts, verdict}
@@ -109,3 +109,11 @@ pub record SharedTrue : Type 0 where
       (a : Message) (f : Field) →
       List·Memᴰ f (bodiesOf a) ↔ (List·Memᴰ f (a .fields) × ((f .number ≡ Attribute·g) ⊎ (f .number ≡ Attribute·graphs)))
   pub bodies-apart : (model : Bytes) (f : Field) → Ordered (f .start) (f .next) (bodiesOf (message model f))
+  pub text-reads : (model : Bytes) (f : Field) (i : ℕ) → i < f .next - f .start → byte (text model f) i ≡ byte model (f .start + i)
+  pub text-ends : (model : Bytes) (f : Field) → length (text model f) ≡ min (f .next - f .start) (length model - f .start)
+  pub first-of : (n : ℕ) (m : Message) (f : Field) → firstOf n m ≡ some f → (more : List Field) × (allOf n m ≡ f ∷ more)
+  pub none-of : (n : ℕ) (m : Message) → firstOf n m ≡ none → allOf n m ≡ []
+  pub name-of : (model : Bytes) (n : ℕ) (m : Message) (f : Field) → firstOf n m ≡ some f → nameOf model n m ≡ nameIn model f
+  pub inputs-of :
+      (model : Bytes) (g : Message) (x : Bytes) →
+      List·Memᴰ x (inputsOf model g) ↔ ((f : Field) × List·Memᴰ f (allOf Graph·input g) × (nameOf model ValueInfo·name (message model f) .bytes ≡ x))
