@@ -9,7 +9,8 @@ use mathlib.Core.Option.{Option, none, some}
 use lib.ListN.{length}
 use mir.Facts.{no-leb}
 use lib.Dec.{T, leb, ltb, leb→le, nleb→lt, nltb→le}
-use Rattle.wire.specs.Outcome.{pass, fail, _>>=_, _>>_, each, Refusal, Judged, Rule, refused, refuse_at:_when:_}
+use Rattle.wire.specs.Outcome.{pass, fail, _>>=_, _>>_, each, Judged, Rule, refused, refuse_at:_when:_}
+use Rattle.wire.specs.declared.Refusal.{Refusal}
 use Rattle.wire.specs.declared.Field.{Field}
 use Rattle.wire.specs.Lists.{isEmpty}
 use Rattle.wire.specs.Bytes.{Bytes}
@@ -183,12 +184,12 @@ module _ (cells : ℕ) where
             (λ n. same-seq most (mostOf n) (each (output model c (n .walk .scope)) tt (allOf Graph·output g)) (pass (n .walk)) (pass (n .walk)) (held-pass most (n .walk)))))))
 
     held-depths : (left : ℕ) (c : Context) (w : Walk) (f : Field) → Held most (most w) (graph model limit left c w f) (graph model free left c w f)
-    unfolding graph refused
+    unfolding graph
     held-depths zero c w f = λ l. (record { number = 6; place = f .place }, refl)
     held-depths (suc left) c w f = held-graph c (graph model limit left (nestedIn c)) (graph model free left (nestedIn c)) (λ w f. held-depths left (nestedIn c) w f) w f
 
     held-second : (list : Bytes) → Held most 0 (secondWalk model list limit) (secondWalk model list free)
-    unfolding secondWalk secondWalkTo refused start
+    unfolding secondWalk secondWalkTo start
     held-second list = skip most 0 (header model list (message model (whole model))) _ _ (λ imports. go (record { imports = imports; main = true }) (firstOf Model·graph (message model (whole model))))
       where
         go : (c : Context) (o : Option Field) → Held most 0

@@ -130,7 +130,7 @@ module _ (model : Bytes) (full : ℕ → Bool) where
 
 -- the plain count has as many depths as the judge, or more
 pub grows-depths : (model : Bytes) (full : ℕ → Bool) (left more : ℕ) (c : Context) (w : Walk) (f : Field) → Tells (Grows (λ (w : Walk). w .nodes) w (nodesIn model (more + left) f)) Any (graph model full left c w f)
-unfolding graph nodesIn refused
+unfolding graph nodesIn
 grows-depths model full zero more c w f = tt
 grows-depths model full (suc left) more c w f = rw add-suc
     (grows-graph model full c (graph model full left (nestedIn c)) (nodesIn model (more + left)) (λ w f. grows-depths model full left more (nestedIn c) w f) w f)
@@ -138,7 +138,7 @@ grows-depths model full (suc left) more c w f = rw add-suc
 -- ---- the whole second walk
 
 pub second-counts : (model list : Bytes) (full : ℕ → Bool) → Tells (λ w. w .nodes ≡ nodeCount model) Any (secondWalk model list full)
-unfolding secondWalk secondWalkTo refused nodesTo start
+unfolding secondWalk secondWalkTo nodesTo start
 second-counts model list full = rw (← (nodes-bound model (length model + 8) (omega arith)))
     (after (λ w. w .nodes ≡ nodesTo model (length model + 8)) (header model list (message model (whole model))) _ (λ imports. go (record { imports = imports; main = true }) (firstOf Model·graph (message model (whole model)))))
   where

@@ -60,7 +60,7 @@ module _ (model list : Bytes) where
   quiet-first = quiet-among Any _ FirstWalk·refusals (firstWalk model) (tt, tt, tt) (firstWalk-tells model)
 
   second-matches : (full : ℕ → Bool) → Matches InStep (secondWalk model list full) (run model [])
-  unfolding secondWalk secondWalkTo runTo refused start begin
+  unfolding secondWalk secondWalkTo runTo start begin
   second-matches full = rw (← (run-bound model (length model + 8) [] (omega arith)))
       (quiet-matches InStep (header model list (message model (whole model))) _ _ quiet-header (λ imports. go imports (firstOf Model·graph (message model (whole model)))))
     where
@@ -101,7 +101,6 @@ module _ (model list : Bytes) (cells : ℕ) where
       rw same at (m .4 (r₀ .trace) (λ x h. h) (λ x h. absurd (List·Memᴰ·not-nil h)))
 
   faithful : Faithful model list cells
-  unfolding refused
   faithful = record {
     ends = λ c e choices. let r₀ = plain c e in let m = follows choices (r₀ .0) (r₀ .1) in (m .0, m .1);
     agrees = λ c e choices₁ choices₂ r₁ r₂ e₁ e₂ x₁ x₂ m₁ m₂ q.

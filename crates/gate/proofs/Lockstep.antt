@@ -231,7 +231,7 @@ module _ (model : Bytes) (full : ℕ → Bool) (c : Context) (J : Walk → Field
 -- ---- the depths: the runner has as many as the judge, or more
 
 pub depths-match : (model : Bytes) (full : ℕ → Bool) (left more : ℕ) (c : Context) (w : Walk) (r : Run) (f : Field) → InStep w r → Matches InStep (graph model full left c w f) (runGraph model (more + left) (c .main) r f)
-unfolding graph runGraph refused nestedIn
+unfolding graph runGraph nestedIn
 depths-match model full zero more c w r f h = tt
 depths-match model full (suc left) more c w r f h = rw add-suc
     (graph-matches model full c (graph model full left (nestedIn c)) (runGraph model (more + left) false) (λ w r f h. depths-match model full left more (nestedIn c) w r f h) w r f h)

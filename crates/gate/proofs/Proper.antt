@@ -7,7 +7,8 @@ use mathlib.Core.Bool.{Bool, true}
 use mathlib.Core.List.{List, [], _∷_}
 use lib.ListN.{length}
 use lib.Dec.{T}
-use Rattle.wire.specs.Outcome.{each, Refusal, refused}
+use Rattle.wire.specs.Outcome.{each, refused}
+use Rattle.wire.specs.declared.Refusal.{Refusal}
 use Rattle.wire.specs.declared.Field.{Field}
 use Rattle.wire.specs.Lists.{isEmpty, contains}
 use Rattle.wire.specs.Bytes.{Bytes}
@@ -141,12 +142,12 @@ module _ (model : Bytes) where
           tells-seq Any Proper (each (output model c (n .walk .scope)) tt (allOf Graph·output g)) _ (tells-each Good Any Proper (output model c (n .walk .scope)) (λ u k _ h. proper-output c (n .walk .scope) u k h) (allOf Graph·output g) (parts Graph·output g q) tt tt) tt)))))
 
     proper-depths : (left : ℕ) (c : Context) (w : Walk) (f : Field) → Good f → Tells Any Proper (graph model full left c w f)
-    unfolding graph refused contains
+    unfolding graph contains
     proper-depths zero c w f g = (tt, good-at f g)
     proper-depths (suc left) c w f g = proper-graph c (graph model full left (nestedIn c)) (λ w f g. proper-depths left (nestedIn c) w f g) w f g
 
     proper-second : (list : Bytes) → Tells Any Proper (secondWalk model list full)
-    unfolding secondWalk secondWalkTo refused message whole subset contains
+    unfolding secondWalk secondWalkTo message whole subset contains
     proper-second list =
         let m = message model (whole model) in
         tells-bind Any Any Proper _ _ (more-numbers Any Place Header·refusals refusals (header model list m) tt (header-tells model Good Place good-at good-in list m all)) (λ imports _.

@@ -75,14 +75,14 @@ module _ (model : Bytes) (Good : Field → Type 0) (Q : ℕ → Type 0) (good-at
       tells-rule Any (Among Type·refusals Q) 38 _ _ _ (λ b. (tt, good-place Dimension·dim-value (message model f) h)) (λ b. tells-last (Among Type·refusals Q) 21 _ _ (λ b. (tt, good-place Dimension·dim-param (message model f) h)))
 
   tensor-tells : (t : Message) → GoodMessage t → Tells Any (Among Type·refusals Q) (tensorType model t)
-  unfolding tensorType refused contains
+  unfolding tensorType contains
   tensor-tells t g =
       tells-rule Any (Among Type·refusals Q) 25 _ _ _ (λ b. (tt, good-place TensorType·elem-type t g)) (λ b.
       tells-option Any (Among Type·refusals Q) Good (firstOf TensorType·shape t) _ _ (good-first TensorType·shape t g) (tt, g .0) (λ shape h.
       tells-each Good Any (Among Type·refusals Q) (dim model) (λ u f _ k. dim-tells u f k) (allOf Shape·dim (message model shape)) (good-all Shape·dim (message model shape) (good-message shape h)) tt tt))
 
   pub type-tells : (v : Message) → GoodMessage v → Tells Any (Among Type·refusals Q) (declaredType model v)
-  unfolding declaredType refused contains
+  unfolding declaredType contains
   type-tells v g =
       tells-option Any (Among Type·refusals Q) Good (firstOf ValueInfo·type v) _ _ (good-first ValueInfo·type v g) (tt, g .0) (λ t h.
       tells-option Any (Among Type·refusals Q) Good (firstOf TypeProto·tensor (message model t)) _ _ (good-first TypeProto·tensor (message model t) (good-message t h)) (tt, good-at t h) (λ u k.

@@ -7,7 +7,8 @@ use mathlib.Core.List.{List, [], _∷_, _++_, List·Memᴰ}
 use mathlib.Core.Option.{none, some}
 use lib.ListN.{length}
 use lib.Dec.{T}
-use Rattle.wire.specs.Outcome.{pass, fail, Refusal, refused}
+use Rattle.wire.specs.Outcome.{pass, fail, refused}
+use Rattle.wire.specs.declared.Refusal.{Refusal}
 use Rattle.wire.specs.declared.Field.{Field}
 use Rattle.wire.specs.Lists.{contains}
 use Rattle.wire.specs.Bytes.{Bytes, byte, same, member}

@@ -6,7 +6,8 @@ use mathlib.Core.Bool.{true, false, _&&_}
 use mathlib.Core.List.{List, []}
 use mathlib.Core.Option.{Option, none, some}
 use lib.Dec.{leb, le→leb, eqb}
-use Rattle.wire.specs.Outcome.{pass, fail, _>>=_, _>>_, Refusal, Judged, Rule, refuse_at:_when:_}
+use Rattle.wire.specs.Outcome.{pass, fail, _>>=_, _>>_, Judged, Rule, refuse_at:_when:_}
+use Rattle.wire.specs.declared.Refusal.{Refusal}
 use Rattle.wire.specs.Lists.{lookup}
 use Rattle.wire.specs.Bytes.{Bytes}
 use Rattle.wire.specs.Wire.{tag, value}

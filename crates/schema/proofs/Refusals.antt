@@ -6,7 +6,8 @@ use mathlib.Core.List.{List, [], _∷_}
 use mathlib.Core.Option.{Option, none, some}
 use lib.ListN.{length}
 use lib.Dec.{leb, nleb→lt}
-use Rattle.wire.specs.Outcome.{Refusal, Rule}
+use Rattle.wire.specs.Outcome.{Rule}
+use Rattle.wire.specs.declared.Refusal.{Refusal}
 use Rattle.wire.specs.Lists.{contains, lookup}
 use Rattle.wire.specs.Bytes.{Bytes}
 use Rattle.wire.specs.Wire.{tag, value}

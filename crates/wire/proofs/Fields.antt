@@ -6,7 +6,8 @@ use mathlib.Core.Bool.{Bool, true, false}
 use mathlib.Core.List.{List, [], _∷_, _++_, flatMap}
 use lib.Dec.{leb, le→leb}
 use mir.Facts.{no-leb}
-use Rattle.wire.specs.Outcome.{pass, fail, Refusal, Judged}
+use Rattle.wire.specs.Outcome.{pass, fail, Judged}
+use Rattle.wire.specs.declared.Refusal.{Refusal}
 use Rattle.wire.specs.Lists.{keep}
 use Rattle.wire.specs.Bytes.{Bytes}
 use Rattle.wire.specs.Wire.{field, fieldsFrom, fields}

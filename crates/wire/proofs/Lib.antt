@@ -4,3 +4,4 @@ pub mod Bytes
 pub mod Passing
 pub mod Reading
 pub mod Fields
+pub mod VarintLaws

@@ -4,10 +4,12 @@ use native.Mathlib.Omega.{arith}
 use mathlib.Core.Path.{_≡_, refl}
 use mathlib.Core.List.{List, [], _∷_}
 use lib.Dec.{ltb, eqb, nltb→le}
-use Rattle.wire.specs.Outcome.{pass, fail, _>>=_, Refusal, Judged, refused}
+use Rattle.wire.specs.Outcome.{pass, fail, _>>=_, Judged, refused}
+use Rattle.wire.specs.declared.Refusal.{Refusal}
 use Rattle.wire.specs.Lists.{contains}
 use Rattle.wire.specs.Bytes.{Bytes, byte}
-use Rattle.wire.specs.Wire.{Varint, varintFrom, varint, tag, sized, value, field}
+use Rattle.wire.specs.Wire.{varintFrom, varint, tag, sized, value, field}
+use Rattle.wire.specs.declared.Varint.{Varint}
 use Rattle.wire.specs.declared.Tag.{Tag}
 use Rattle.wire.specs.declared.Field.{Field}
 use Rattle.wire.proofs.Tells.{Tells, Among, tells-bind, tells-rule, tells-if}
@@ -33,7 +35,7 @@ sized-tells t end v start size h = tells-rule (Follows t end) (AtTag (t .place))
 
 module _ (model : Bytes) where
   varint-tells : (left place end pos : ℕ) → Tells (λ v. pos < v .next) (AtTag place) (varintFrom model left place end pos)
-  unfolding varintFrom refused contains
+  unfolding varintFrom contains
   varint-tells zero place end pos = (tt, refl)
   varint-tells (suc left) place end pos =
       tells-rule _ _ 1 _ _ _ (λ h. (tt, refl)) (λ h. tells-rule _ _ 2 _ _ _ (λ h. (tt, refl)) (λ h.

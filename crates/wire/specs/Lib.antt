@@ -2,6 +2,7 @@ pub mod Outcome
 pub mod Lists
 pub mod Bytes
 pub mod Wire
+pub mod Answers
 pub mod Message
 pub mod Order
 pub mod Notation

@@ -3,6 +3,7 @@
 use Prim.Native.Nat.{ℕ}
 use mathlib.Core.Bool.{Bool, true, false}
 use mathlib.Core.List.{List, [], _∷_}
+use Rattle.wire.specs.declared.Refusal.{Refusal}
 
 pub data Outcome (E A : Type 0) : Type 0 where
   pass : A → Outcome E A
@@ -23,11 +24,8 @@ unfoldable pub each : {E A S : Type 0} → (S → A → Outcome E S) → S → L
 each step s [] = pass s
 each step s (a ∷ more) = step s a >>= λ t. each step t more
 
--- "*refused* with a number and a place". Number and place are document 01's terms: a place is a byte offset in the model.
-pub record Refusal : Type 0 where
-  pub number : ℕ
-  pub place : ℕ
-
+-- "*refused* with a number and a place": a refusal is the struct of the code. Number and place are document 01's terms: a place
+-- is a byte offset in the model.
 abbrev pub Judged : Type 0 → Type 0
 Judged A = Outcome Refusal A
 
@@ -35,7 +33,7 @@ Judged A = Outcome Refusal A
 abbrev pub Rule : Type 0
 Rule = Judged (Unit {0})
 
-unfoldable pub refused : {A : Type 0} → ℕ → ℕ → Judged A
+abbrev pub refused : {A : Type 0} → ℕ → ℕ → Judged A
 refused n p = fail (record { number = n; place = p })
 
 -- One rule, as in `refuse 27 at: p when: broken`, with document 01's number.
@@ -46,5 +44,5 @@ refuse n at: p when: false = pass tt
 
 -- All of this file, for whoever computes with it.
 unfoldable pub Outcome·computes : Unit {0}
-unfolding _>>=_ _>>_ each refused refuse_at:_when:_
+unfolding _>>=_ _>>_ each refuse_at:_when:_
 Outcome·computes = tt

@@ -5,7 +5,8 @@ use mathlib.Core.List.{List, [], _∷_, map}
 use lib.ListN.{length}
 use Rattle.wire.specs.Outcome.{pass, Judged, refused}
 use Rattle.wire.specs.Bytes.{Bytes}
-use Rattle.wire.specs.Wire.{VARINT, I64, LEN, I32, Varint, varint}
+use Rattle.wire.specs.Wire.{VARINT, I64, LEN, I32, varint}
+use Rattle.wire.specs.declared.Varint.{Varint}
 use Rattle.wire.specs.Message.{text, message, whole, Message·computes}
 use Rattle.wire.specs.Notation.{hex, ascii, Notation·computes}
 

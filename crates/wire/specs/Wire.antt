@@ -1,6 +1,6 @@
 -- Document 01, "First walk: the wire": varints, tags, values and fields, with no regard to what a field means.
 -- A position is always one in the whole model: `pos` is where something begins, `end` where the enclosing message ends.
--- Tag and Field are the structs of the code. A refusal in a field names the place of its tag.
+-- Varint, Tag and Field are the structs of the code. A refusal in a field names the place of its tag.
 use Prim.Native.Nat.{ℕ, zero, suc, _+_, _-_, _*_, _/_, _%_, _^_}
 use mathlib.Core.Bool.{Bool, true, false, not, _&&_, _||_}
 use mathlib.Core.List.{List, [], _∷_}
@@ -8,6 +8,7 @@ use lib.Dec.{leb, ltb, eqb}
 use Rattle.wire.specs.Outcome.{pass, fail, _>>=_, _>>_, Judged, refused, refuse_at:_when:_, Outcome·computes}
 use Rattle.wire.specs.Lists.{contains, Lists·computes}
 use Rattle.wire.specs.Bytes.{Bytes, byte, Bytes·computes}
+use Rattle.wire.specs.declared.Varint.{Varint}
 use Rattle.wire.specs.declared.Tag.{Tag}
 use Rattle.wire.specs.declared.Field.{Field}
 
@@ -23,11 +24,6 @@ LEN = 2
 
 abbrev pub I32 : ℕ
 I32 = 5
-
--- A varint that was read: its value, and the position after it.
-pub record Varint : Type 0 where
-  pub value : ℕ
-  pub next : ℕ
 
 -- "A tag is at most 2^32 - 1, its field number at least 1, its wire type 0, 1, 2 or 5."
 unfoldable pub badTag : ℕ → Bool

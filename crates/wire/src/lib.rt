@@ -1,4 +1,22 @@
-// The wire of Protocol Buffers: the two things that a reader of it hands on. The definitions in specs/ speak of these very structs.
+// The wire of Protocol Buffers, read where it stands: varints, tags, fields, and the parts of a message. Nothing is copied or
+// decoded ahead, and every function answers for any bytes and any numbers. What the answers mean stands in specs/.
+mod cursors;
+mod spans;
+mod varints;
+
+pub use varints::read_varint;
+
+// A refusal of document 01: its number, and its place in the model.
+pub struct Refusal {
+    pub number: u8,
+    pub place: usize,
+}
+
+// A varint that was read: its value, and where it ends.
+pub struct Varint {
+    pub value: u64,
+    pub next: usize,
+}
 
 // A tag that was read: where it begins, its field number and wire type, and where it ends.
 pub struct Tag {
@@ -17,4 +35,45 @@ pub struct Field {
     pub value: u64,
     pub start: usize,
     pub next: usize,
+}
+
+// A reading place, and the end of the message around it. It moves on by whole fields.
+pub struct Cursor {
+    pub at: usize,
+    pub end: usize,
+}
+
+// A range of a slice: the bytes from `start` up to `end`, or as many of them as there are.
+pub struct Span {
+    pub start: usize,
+    pub end: usize,
+}
+
+pub enum VarintAnswer {
+    Read(Varint),
+    Refused(Refusal),
+}
+
+pub enum TagAnswer {
+    Read(Tag),
+    Refused(Refusal),
+}
+
+// A field, and the cursor after it.
+pub enum FieldAnswer {
+    Read(Field, Cursor),
+    Refused(Refusal),
+}
+
+// The field that was looked for, and the cursor after it.
+pub enum Sought {
+    Found(Field, Cursor),
+    Missing,
+}
+
+// The numbers of document 01's table that this crate refuses with.
+impl Refusal {
+    pub const PAST_END: u8 = 1;
+    pub const TENTH_BYTE: u8 = 2;
+    pub const BAD_TAG: u8 = 3;
 }
