@@ -5,3 +5,4 @@ pub mod Passing
 pub mod Reading
 pub mod Fields
 pub mod VarintLaws
+pub mod SliceLaws

@@ -1,9 +1,11 @@
 // The wire of Protocol Buffers, read where it stands: varints, tags, fields, and the parts of a message. Nothing is copied or
 // decoded ahead, and every function answers for any bytes and any numbers. What the answers mean stands in specs/.
 mod cursors;
-mod spans;
+mod slices;
 mod varints;
 
+pub use slices::between;
+pub use slices::same_bytes;
 pub use varints::read_varint;
 
 // A refusal of document 01: its number, and its place in the model.
@@ -43,12 +45,6 @@ pub struct Cursor {
     pub end: usize,
 }
 
-// A range of a slice: the bytes from `start` up to `end`, or as many of them as there are.
-pub struct Span {
-    pub start: usize,
-    pub end: usize,
-}
-
 pub enum VarintAnswer {
     Read(Varint),
     Refused(Refusal),
@@ -74,6 +70,8 @@ pub enum Sought {
 // The numbers of document 01's table that this crate refuses with.
 impl Refusal {
     pub const PAST_END: u8 = 1;
+
     pub const TENTH_BYTE: u8 = 2;
+
     pub const BAD_TAG: u8 = 3;
 }

@@ -4,7 +4,9 @@ ghost use Prim.Native.Nat.{_<_};
 ghost use Rattle.wire.specs.Bytes.{byte};
 ghost use Rattle.wire.specs.Wire.{varint};
 ghost use Rattle.wire.specs.Answers.{varintSays};
-use crate::{Refusal, Varint, VarintAnswer};
+use crate::Refusal;
+use crate::Varint;
+use crate::VarintAnswer;
 
 // The byte at a position, 0 past the end.
 fn byte_at(s: &[u8], pos: usize) -> u64
