@@ -1,13 +1,14 @@
--- The entries of an operator list: a bound from the bytes left on changes nothing.
-use Prim.Native.Nat.{ℕ, zero, suc, _+_, _-_, _≤_}
+-- The entries of an operator list, step by step and with no bound in sight.
+use Prim.Native.Nat.{ℕ, zero, suc, _+_, _-_, _≤_, _<_}
 use native.Mathlib.Omega.{arith}
-use mathlib.Core.Path.{_≡_, refl, sym, ap}
+use mathlib.Core.Path.{_≡_, refl, sym, ap, _∙_}
 use mathlib.Core.Bool.{Bool, true, false}
 use mathlib.Core.List.{List, [], _∷_}
 use lib.ListN.{length}
 use lib.Dec.{leb, le→leb}
+use mir.Facts.{no-leb}
 use Rattle.wire.specs.Bytes.{Bytes}
-use Rattle.wire.proofs.Lists.{T-true}
+use Rattle.wire.proofs.Lists.{T-true, T-false}
 use Rattle.operators.specs.Operators.{after, entriesFrom, entriesAt}
 
 module _ (list : Bytes) where
@@ -28,6 +29,17 @@ module _ (list : Bytes) where
       go true e = refl
       go false e = ap (λ (l : List ℕ). pos ∷ l) e
 
+  -- a bound from the bytes left on changes nothing
   pub entries-bound : (bound pos : ℕ) → length list ≤ pos + bound → entriesFrom list bound pos ≡ entriesAt list pos
   unfolding entriesAt
   entries-bound bound pos h = entries-agree bound (length list - pos) pos h (omega arith)
+
+  pub entries-done : (pos : ℕ) → length list ≤ pos → entriesAt list pos ≡ []
+  unfolding entriesAt
+  entries-done pos h = entries-end (length list - pos) pos h
+
+  pub entries-step : (pos : ℕ) → pos < length list → entriesAt list pos ≡ pos ∷ entriesAt list (after list pos)
+  unfolding entriesFrom after
+  entries-step pos h =
+      sym (entries-bound (suc (length list - pos)) pos (omega arith))
+      ∙ rw (T-false (leb (length list) pos) (no-leb h), entriesFrom) (ap (λ (l : List ℕ). pos ∷ l) (entries-bound (length list - pos) (after list pos) (omega arith)))
