@@ -27,10 +27,6 @@ returns : tie.Need-returns Inv-loop μ-loop
 unfolding varintSays
 returns c = turn-past (c .before .loop .inv) (c .if1 .taken)
 
--- src/varints.rt:34:13
-byte-at-requires : tie.Need-byte-at-requires Inv-loop μ-loop
-byte-at-requires c κs = search needs
-
 -- src/varints.rt:37:17
 returns-2 : tie.Need-returns-2 Inv-loop μ-loop
 unfolding varintSays
@@ -44,10 +40,6 @@ mul-t14 c = record { fits = omega (arith, last-fits (c .before .before .before .
 add-t15 : tie.Need-add-t15 Inv-loop μ-loop
 add-t15 c = record { fits = last-fits (c .before .before .before .before .loop .inv) _ (c .before .if2 .taken) (c .if3 .left) }
 
--- src/varints.rt:44:23
-add-t16 : tie.Need-add-t16 Inv-loop μ-loop
-add-t16 c = search needs
-
 -- src/varints.rt:42:13
 returns-3 : tie.Need-returns-3 Inv-loop μ-loop
 unfolding varintSays
@@ -60,10 +52,6 @@ mul-t18 c = record { fits = omega (arith, small-fits (c .before .before .before 
 -- src/varints.rt:49:24
 add-t19 : tie.Need-add-t19 Inv-loop μ-loop
 add-t19 c = record { fits = small-fits (c .before .before .before .before .loop .inv) (c .before .before .byte-at .result) (omega arith) (omega arith) }
-
--- src/varints.rt:50:23
-add-t20 : tie.Need-add-t20 Inv-loop μ-loop
-add-t20 c = search needs
 
 -- src/varints.rt:48:13
 returns-4 : tie.Need-returns-4 Inv-loop μ-loop
@@ -82,18 +70,6 @@ add-value c = record { fits = small-fits (c .before .before .before .before .loo
 mul-scale : tie.Need-mul-scale Inv-loop μ-loop
 mul-scale c = record { fits = scale-fits (c .before .before .before .before .loop .inv) (omega arith) }
 
--- src/varints.rt:55:9
-sub-left : tie.Need-sub-left Inv-loop μ-loop
-sub-left c = search needs
-
--- src/varints.rt:56:9
-add-pos : tie.Need-add-pos Inv-loop μ-loop
-add-pos c = search needs
-
--- src/varints.rt:27:5
-loop-less : tie.Need-loop-less Inv-loop μ-loop
-loop-less c = search needs
-
 -- src/varints.rt:27:5
 loop-again : tie.Need-loop-again Inv-loop μ-loop
 loop-again c = turn-more (c .before .before .before .before .loop .inv) _ (omega arith) (c .before .before .before .if1 .left) (c .before .before .byte-at .ensures .0) (c .if4 .left) (c .before .before .byte-at .ensures .1)
@@ -106,20 +82,20 @@ read-varint-spec =
     μ-loop
     loop-holds
     returns
-    byte-at-requires
+    (λ c κs. search needs)
     returns-2
     mul-t14
     add-t15
-    add-t16
+    (λ c. search needs)
     returns-3
     mul-t18
     add-t19
-    add-t20
+    (λ c. search needs)
     returns-4
     mul-value
     add-value
     mul-scale
-    sub-left
-    add-pos
-    loop-less
+    (λ c. search needs)
+    (λ c. search needs)
+    (λ c. search needs)
     loop-again)
