@@ -8,14 +8,15 @@ use mathlib.Core.Option.{Option, none, some}
 use lib.Dec.{leb, le→leb, eqb}
 use Rattle.wire.specs.Outcome.{pass, fail, _>>=_, _>>_, Judged, Rule, refuse_at:_when:_}
 use Rattle.wire.specs.declared.Refusal.{Refusal}
-use Rattle.wire.specs.Lists.{lookup}
+use Rattle.wire.specs.Lists.{contains}
 use Rattle.wire.specs.Bytes.{Bytes}
 use Rattle.wire.specs.Wire.{tag, value}
 use Rattle.wire.specs.declared.Field.{Field}
 use Rattle.wire.proofs.Lists.{T-true}
 use Rattle.wire.proofs.Tells.{Tells}
 use Rattle.wire.proofs.Reading.{AtTag, Follows, tag-tells, value-tells}
-use Rattle.schema.specs.Rows.{Kind, rows, isGraph}
+use Rattle.schema.specs.declared.Kind.{Kind}
+use Rattle.schema.specs.Rows.{rowOf, isGraph}
 use Rattle.schema.specs.FirstWalk.{slotOf, take-up, kindOf, deeper, contents, turn, walk, walked}
 
 -- two continuations that agree on what a reading tells
@@ -48,8 +49,8 @@ module _ (model : Bytes) where
         bind-agrees (λ t. (t .place ≡ pos) × (pos < t .next)) (AtTag pos) (tag model end pos) _ _ (tag-tells model end pos) (λ t at.
         seq-agrees (refuse 4 at: pos when: _) _ _ (seq-agrees (refuse 5 at: pos when: _) _ _
         (bind-agrees (Follows t end) (AtTag (t .place)) (value model t end) _ _ (value-tells model t end) (λ f on.
-        ap (λ (o : Rule). o >>= λ (_ : Unit {0}). walk model n kind depth (take-up (slotOf (t .number) (lookup (t .number) (rows kind))) slots) end (f .next)) (contents-agree depth (kindOf (lookup (t .number) (rows kind))) f (omega arith) (omega arith))
-        ∙ ap (λ (r : Rule). contents model (λ k d e p. walk model m k d [] e p) depth (kindOf (lookup (t .number) (rows kind))) f >>= λ (_ : Unit {0}). r) (ih kind depth (take-up (slotOf (t .number) (lookup (t .number) (rows kind))) slots) end (f .next) (omega arith) (omega arith))))))
+        ap (λ (o : Rule). o >>= λ (_ : Unit {0}). walk model n kind depth (take-up (slotOf (t .number) (rowOf kind (t .number))) slots) end (f .next)) (contents-agree depth (kindOf (rowOf kind (t .number))) f (omega arith) (omega arith))
+        ∙ ap (λ (r : Rule). contents model (λ k d e p. walk model m k d [] e p) depth (kindOf (rowOf kind (t .number))) f >>= λ (_ : Unit {0}). r) (ih kind depth (take-up (slotOf (t .number) (rowOf kind (t .number))) slots) end (f .next) (omega arith) (omega arith))))))
 
   walk-agree : (n m : ℕ) (kind : Kind) (depth : ℕ) (slots : List ℕ) (end pos : ℕ) → end ≤ pos + n → end ≤ pos + m → walk model n kind depth slots end pos ≡ walk model m kind depth slots end pos
   unfolding walk

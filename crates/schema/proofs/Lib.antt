@@ -1,3 +1,4 @@
+pub mod RowLaws
 pub mod Bound
 pub mod Refusals
 pub mod Opened
