@@ -1,7 +1,10 @@
 // The messages of ONNX that the gate opens, the rows of each as one table, and the first walk over them.
 mod rows;
+mod walks;
 
 pub use rows::row_of;
+pub use walks::first_walk;
+use wire::Refusal;
 
 // The kinds of message that the first walk opens.
 pub enum Kind {
@@ -34,4 +37,25 @@ pub enum Row {
     Packable(Holds),
     OneOf(Holds),
     Unknown,
+}
+
+// What stands in a field: a message to be opened, or nothing that the walk looks at.
+pub enum Content {
+    Message(Kind),
+    Closed,
+}
+
+// The model keeps the rules of the wire, or the first that it breaks.
+pub enum WalkAnswer {
+    Sound,
+    Refused(Refusal),
+}
+
+// The numbers of document 01's table that the first walk adds to those of the wire.
+impl WalkAnswer {
+    pub const WRONG_WIRE: u8 = 4;
+
+    pub const REPEATED: u8 = 5;
+
+    pub const TOO_DEEP: u8 = 6;
 }

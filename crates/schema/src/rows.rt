@@ -2,7 +2,9 @@
 ghost use mathlib.Core.Path.{_≡_};
 ghost use Rattle.schema.specs.Rows.{rowOf};
 ghost use Rattle.schema.specs.declared.Kind.the-variants as kind;
-use crate::{Holds, Kind, Row};
+use crate::Holds;
+use crate::Kind;
+use crate::Row;
 
 fn model_row(number: u64) -> Row
     ensures { λ r. ⌜ r ≡ rowOf kind.Model number ⌝ }

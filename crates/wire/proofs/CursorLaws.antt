@@ -28,7 +28,7 @@ use Rattle.wire.proofs.Reading.{Fits, field-tells}
 use Rattle.wire.proofs.Fields.{fields-done, fields-step, fields-stop}
 
 -- what an answer says, where it is known which variant it is
-says : {A B : Type 0} (f : A → B) {r v : A} {o : B} → f r ≡ o → r ≡ v → f v ≡ o
+pub says : {A B : Type 0} (f : A → B) {r v : A} {o : B} → f r ≡ o → r ≡ v → f v ≡ o
 says f h k = ap f (sym k) ∙ h
 
 -- ---- a tag
@@ -104,7 +104,7 @@ module _ (s : Bytes) (end pos : ℕ) {r : TagAnswer} (read : tagSays r ≡ tag s
   field-read e = rw (← says tagSays read e)
 
 -- what an answer says of the field itself
-with-cursor-read : (end : ℕ) {f : Field} {next : Cursor} (o : Judged Field) → pass (f, next) ≡ withCursor end o → (o ≡ pass f) × (next ≡ record { at = f .next; end = end })
+pub with-cursor-read : (end : ℕ) {f : Field} {next : Cursor} (o : Judged Field) → pass (f, next) ≡ withCursor end o → (o ≡ pass f) × (next ≡ record { at = f .next; end = end })
 unfolding withCursor after _>>=_
 with-cursor-read end {f} {next} (pass g) e =
     let q : _≡_ {A = Field × Cursor} (f, next) (after end g) = pass-same (f, next) (after end g) e in
@@ -112,7 +112,7 @@ with-cursor-read end {f} {next} (pass g) e =
     (ap pass (sym k), ap (λ (p : Field × Cursor). p .1) q ∙ ap (λ (x : Field). record { at = x .next; end = end }) (sym k))
 with-cursor-read end {f} {next} (fail r) e = absurd (fail-no-pass r (f, next) (sym e))
 
-with-cursor-refused : (end : ℕ) {r : Refusal} (o : Judged Field) → fail r ≡ withCursor end o → o ≡ fail r
+pub with-cursor-refused : (end : ℕ) {r : Refusal} (o : Judged Field) → fail r ≡ withCursor end o → o ≡ fail r
 unfolding withCursor _>>=_
 with-cursor-refused end {r} (pass g) e = absurd (fail-no-pass r (after end g) e)
 with-cursor-refused end {r} (fail q) e = let k : r ≡ q = cc in ap fail (sym k)

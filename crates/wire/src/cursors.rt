@@ -3,13 +3,23 @@ ghost use mathlib.Core.Path.{_≡_};
 ghost use Rattle.wire.specs.Outcome.{refused};
 ghost use Rattle.wire.specs.Wire.{badTag, tag, sized, value, field};
 ghost use Rattle.wire.specs.Answers.{varintSays, tagSays, fieldSays, withCursor, soughtSays, soughtIn};
+use crate::Cursor;
+use crate::Field;
+use crate::FieldAnswer;
+use crate::Refusal;
+use crate::Sought;
+use crate::Tag;
+use crate::TagAnswer;
+use crate::VarintAnswer;
 use crate::varints::read_varint;
-use crate::{Cursor, Field, FieldAnswer, Refusal, Sought, Tag, TagAnswer, VarintAnswer};
 
 // The wire types: varint, eight bytes, length and contents, four bytes.
 const VARINT: u64 = 0;
+
 const I64: u64 = 1;
+
 const LEN: u64 = 2;
+
 const I32: u64 = 5;
 
 // "A tag is at most 2^32 - 1, its field number at least 1, its wire type 0, 1, 2 or 5."

@@ -4,17 +4,11 @@ use Rattle.wire.proofs.CursorLaws.{field-refused, field-read}
 use borrow.Author.Needs.{needs}
 use Rattle.wire.proofs.Cursor.field.Statement.{statement}
 use Rattle.wire.proofs.Cursor.field.Tie as tie
-use Rattle.wire.proofs.Cursor.field.Reads as reads
-use Rattle.wire.proofs.Cursor.field.Lts as lts
-use Rattle.wire.proofs.Cursor.tag.Reads as tag-reads
-use Rattle.wire.proofs.Cursor.value.Reads as value-reads
 
--- src/cursors.rt:117:5
 returns : tie.Need-returns
 unfolding fieldSays
 returns c = field-refused _ _ _ (c .before .before .before .tag .ensures) (c .before .r .given .1)
 
--- src/cursors.rt:117:5
 returns-2 : tie.Need-returns-2
 returns-2 c = c .value .ensures ∙ field-read _ _ _ (c .before .before .before .before .tag .ensures) (c .before .before .t .given .1)
 

@@ -4,22 +4,15 @@ use Rattle.wire.proofs.CursorLaws.{tag-refused, tag-bad, tag-read}
 use borrow.Author.Needs.{needs}
 use Rattle.wire.proofs.Cursor.tag.Statement.{statement}
 use Rattle.wire.proofs.Cursor.tag.Tie as tie
-use Rattle.wire.proofs.Cursor.tag.Reads as reads
-use Rattle.wire.proofs.Cursor.tag.Lts as lts
-use Rattle.wire.proofs.cursors.is_bad_tag.Reads as is-bad-tag-reads
-use Rattle.wire.proofs.varints.read_varint.Reads as read-varint-reads
 
--- src/cursors.rt:77:21
 returns : tie.Need-returns
 unfolding tagSays
 returns c = tag-bad _ _ _ (c .before .before .before .before .before .read-varint .ensures) (c .before .before .before .v .given .1) (sym (c .before .is-bad-tag .ensures) ∙ c .if1 .taken)
 
--- src/cursors.rt:68:5
 returns-2 : tie.Need-returns-2
 unfolding tagSays
 returns-2 c = tag-refused _ _ _ (c .before .before .before .read-varint .ensures) (c .before .r .given .1)
 
--- src/cursors.rt:68:5
 returns-3 : tie.Need-returns-3
 unfolding tagSays
 returns-3 c = tag-read _ _ _ (c .before .before .before .before .before .read-varint .ensures) (c .before .before .before .v .given .1) (sym (c .before .is-bad-tag .ensures) ∙ c .if1 .left)

@@ -4,34 +4,24 @@ use Rattle.wire.proofs.CursorLaws.{number-refused, number-read, length-
 use borrow.Author.Needs.{needs}
 use Rattle.wire.proofs.Cursor.value.Statement.{statement}
 use Rattle.wire.proofs.Cursor.value.Tie as tie
-use Rattle.wire.proofs.Cursor.value.Reads as reads
-use Rattle.wire.proofs.Cursor.value.Lts as lts
-use Rattle.wire.proofs.cursors.sized_field.Reads as sized-field-reads
-use Rattle.wire.proofs.varints.read_varint.Reads as read-varint-reads
 
--- src/cursors.rt:99:13
 returns : tie.Need-returns
 unfolding fieldSays
 returns c = number-refused _ _ _ (c .before .before .before .read-varint .ensures) (c .before .before .before .before .if1 .taken) (c .before .r .given .1)
 
--- src/cursors.rt:99:13
 returns-2 : tie.Need-returns-2
 returns-2 c = c .sized-field .ensures ∙ number-read _ _ _ (c .before .before .before .before .read-varint .ensures) (c .before .before .before .before .before .if1 .taken) (c .before .before .v .given .1)
 
--- src/cursors.rt:105:13
 returns-3 : tie.Need-returns-3
 unfolding fieldSays
 returns-3 c = length-refused _ _ _ (c .before .before .before .read-varint2 .ensures) (c .before .before .before .before .if2 .taken) (c .before .r2 .given .1)
 
--- src/cursors.rt:105:13
 returns-4 : tie.Need-returns-4
 returns-4 c = c .sized-field2 .ensures ∙ length-read _ _ _ (c .before .before .before .before .read-varint2 .ensures) (c .before .before .before .before .before .if2 .taken) (c .before .before .v2 .given .1)
 
--- src/cursors.rt:111:13
 returns-5 : tie.Need-returns-5
 returns-5 c = c .sized-field3 .ensures ∙ eight-read _ _ _ (c .before .if3 .taken)
 
--- src/cursors.rt:93:5
 returns-6 : tie.Need-returns-6
 returns-6 c = c .sized-field4 .ensures ∙ four-read _ _ _ (c .before .before .before .if1 .left) (c .before .before .if2 .left) (c .before .if3 .left)
 

@@ -2,11 +2,7 @@ use Rattle.wire.specs.Message.{text}
 use borrow.Author.Needs.{needs}
 use Rattle.wire.proofs.Field.text.Statement.{statement}
 use Rattle.wire.proofs.Field.text.Tie as tie
-use Rattle.wire.proofs.Field.text.Reads as reads
-use Rattle.wire.proofs.Field.text.Lts as lts
-use Rattle.wire.proofs.slices.between.Reads as between-reads
 
--- src/slices.rt:28:5
 returns : tie.Need-returns
 unfolding text
 returns c = c .between .ensures

@@ -4,35 +4,27 @@ use Rattle.wire.specs.Lists.{contains}
 use Rattle.wire.proofs.CursorLaws.{bad-other}
 use Rattle.wire.proofs.cursors.is_bad_tag.Statement.{statement}
 use Rattle.wire.proofs.cursors.is_bad_tag.Tie as tie
-use Rattle.wire.proofs.cursors.is_bad_tag.Reads as reads
-use Rattle.wire.proofs.cursors.is_bad_tag.Lts as lts
 
--- src/cursors.rt:19:9
 returns : tie.Need-returns
 unfolding badTag
 returns c = simp (le-leb _ _ (c .if1 .taken))
 
--- src/cursors.rt:22:9
 returns-2 : tie.Need-returns-2
 unfolding badTag
 returns-2 c = simp (lt-leb _ _ (c .before .if1 .left), eq-eqb _ _ (c .if2 .taken))
 
--- src/cursors.rt:26:9
 returns-3 : tie.Need-returns-3
 unfolding badTag contains
 returns-3 c = simp (lt-leb _ _ (c .before .before .if1 .left), ne-eqb _ _ (c .before .if2 .left), eq-eqb _ _ (c .if3 .taken))
 
--- src/cursors.rt:29:9
 returns-4 : tie.Need-returns-4
 unfolding badTag contains
 returns-4 c = simp (lt-leb _ _ (c .before .before .before .if1 .left), ne-eqb _ _ (c .before .before .if2 .left), ne-eqb _ _ (c .before .if3 .left), eq-eqb _ _ (c .if4 .taken))
 
--- src/cursors.rt:32:9
 returns-5 : tie.Need-returns-5
 unfolding badTag contains
 returns-5 c = simp (lt-leb _ _ (c .before .before .before .before .if1 .left), ne-eqb _ _ (c .before .before .before .if2 .left), ne-eqb _ _ (c .before .before .if3 .left), ne-eqb _ _ (c .before .if4 .left), eq-eqb _ _ (c .if5 .taken))
 
--- src/cursors.rt:15:1
 returns-6 : tie.Need-returns-6
 returns-6 c = bad-other _ (c .before .before .before .before .if1 .left) (c .before .before .before .if2 .left) (c .before .before .if3 .left) (c .before .if4 .left) (c .if5 .left)
 

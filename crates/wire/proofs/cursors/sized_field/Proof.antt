@@ -5,19 +5,13 @@ use Rattle.wire.proofs.CursorLaws.{sized-past, sized-in}
 use borrow.Author.Needs.{needs}
 use Rattle.wire.proofs.cursors.sized_field.Statement.{statement}
 use Rattle.wire.proofs.cursors.sized_field.Tie as tie
-use Rattle.wire.proofs.cursors.sized_field.Reads as reads
-use Rattle.wire.proofs.cursors.sized_field.Lts as lts
-use Rattle.wire.proofs.cursors.past_end.Reads as past-end-reads
 
--- src/cursors.rt:42:9
 returns : tie.Need-returns
 returns c = c .past-end .ensures ∙ sized-past _ _ _ _ _ (omega arith)
 
--- src/cursors.rt:45:9
 returns-2 : tie.Need-returns-2
 returns-2 c = c .past-end2 .ensures ∙ sized-past _ _ _ _ _ (omega arith)
 
--- src/cursors.rt:38:1
 returns-3 : tie.Need-returns-3
 unfolding fieldSays after
 returns-3 c = sized-in _ _ _ _ _ (omega arith)

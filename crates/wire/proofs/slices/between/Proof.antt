@@ -2,11 +2,7 @@ use Rattle.wire.proofs.SliceLaws.{part-cut}
 use borrow.Author.Needs.{needs}
 use Rattle.wire.proofs.slices.between.Statement.{statement}
 use Rattle.wire.proofs.slices.between.Tie as tie
-use Rattle.wire.proofs.slices.between.Reads as reads
-use Rattle.wire.proofs.slices.between.Lts as lts
-use Rattle.wire.proofs.slices.lesser.Reads as lesser-reads
 
--- src/slices.rt:18:1
 returns : tie.Need-returns
 returns c = part-cut _ _ _ _ _ (c .before .before .lesser .ensures) (c .before .lesser2 .ensures)
 

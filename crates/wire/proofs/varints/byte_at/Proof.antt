@@ -6,19 +6,14 @@ use Rattle.wire.specs.Bytes.{byte}
 use borrow.Author.Needs.{needs}
 use Rattle.wire.proofs.varints.byte_at.Statement.{statement}
 use Rattle.wire.proofs.varints.byte_at.Tie as tie
-use Rattle.wire.proofs.varints.byte_at.Reads as reads
-use Rattle.wire.proofs.varints.byte_at.Lts as lts
 
--- src/varints.rt:14:16
 cast-result : tie.Need-cast-result
 cast-result c = omega (arith, c .shared-slice-known .given (c .before .before .args .pos))
 
--- src/varints.rt:14:9
 returns : tie.Need-returns
 unfolding byte
 returns c = (refl, omega (arith, c .shared-slice-known .given (c .before .before .args .pos)))
 
--- src/varints.rt:10:1
 returns-2 : tie.Need-returns-2
 unfolding byte
 returns-2 c = (sym (List·getD-eq-default (now (c .before .args .s)) 0 (c .if1 .left)), search needs)
