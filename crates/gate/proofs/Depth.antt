@@ -10,12 +10,14 @@ use native.Mathlib.Nat.{add-suc}
 use lib.Dec.{T, eqb, eqb→eq}
 use Rattle.wire.specs.Outcome.{Outcome, pass, _>>=_, Judged, refused}
 use Rattle.wire.specs.declared.Field.{Field}
-use Rattle.wire.specs.Lists.{keep, lookup, Lists·computes}
+use Rattle.wire.specs.Lists.{keep}
 use Rattle.wire.specs.Bytes.{Bytes}
 use Rattle.wire.specs.Message.{allOf, firstOf, message, whole}
 use Rattle.wire.proofs.Lists.{or-cases, All, If, all-map, all-first, all-kept}
 use Rattle.wire.proofs.Tells.{each-agree}
-use Rattle.schema.specs.Rows.{Kind, Model, Graph, Node, Attribute, rows, isGraph, Rows·computes}
+use Rattle.schema.specs.declared.Kind.{Kind}
+use Rattle.schema.specs.declared.Kind.the-variants.{Model, Graph, Node, Attribute}
+use Rattle.schema.specs.Rows.{rowOf, isGraph, Rows·computes}
 use Rattle.schema.specs.Numbers.{Model·graph, Graph·node, Node·attribute, Attribute·g, Attribute·graphs}
 use Rattle.schema.specs.FirstWalk.{kindOf, deeper, walked, firstWalk}
 use Rattle.schema.proofs.Opened.{Sound, Opens, walked-opens}
@@ -30,26 +32,26 @@ bind-same o f g h = ap (λ k. o >>= k) (λ i a. h a i)
 
 module _ (model : Bytes) where
   -- fields of a walked message that open messages of one kind: those were walked too
-  opens-kept : (kind : Kind) (depth : ℕ) (f : Field) (test : Field → Bool) (k : Kind) → ((g : Field) → T (test g) → kindOf (lookup (g .number) (rows kind)) ≡ some k) → walked model kind depth [] (f .next) (f .start) ≡ pass tt → All (λ g. Sound model depth g k) (keep test (message model f .fields))
+  opens-kept : (kind : Kind) (depth : ℕ) (f : Field) (test : Field → Bool) (k : Kind) → ((g : Field) → T (test g) → kindOf (rowOf kind (g .number)) ≡ some k) → walked model kind depth [] (f .next) (f .start) ≡ pass tt → All (λ g. Sound model depth g k) (keep test (message model f .fields))
   unfolding message
   opens-kept kind depth f test k e w = all-kept test (Opens model kind depth) (λ g. Sound model depth g k) (λ g o t. opened-as g o (e g t)) (message model f .fields) (walked-opens model kind depth (f .next) (f .start) w)
     where
-      opened-as : (g : Field) → Opens model kind depth g → kindOf (lookup (g .number) (rows kind)) ≡ some k → Sound model depth g k
+      opened-as : (g : Field) → Opens model kind depth g → kindOf (rowOf kind (g .number)) ≡ some k → Sound model depth g k
       opened-as g o q = rw q at o
 
   nodes-sound : (depth : ℕ) (f : Field) → walked model Graph depth [] (f .next) (f .start) ≡ pass tt → All (λ n. Sound model depth n Node) (allOf Graph·node (message model f))
-  unfolding allOf Rows·computes Lists·computes kindOf
+  unfolding allOf Rows·computes kindOf
   nodes-sound depth f w = opens-kept Graph depth f (λ g. eqb Graph·node (g .number)) Node (λ g t. rw (← (eqb→eq Graph·node (g .number) t)) refl) w
 
   attributes-sound : (depth : ℕ) (n : Field) → Sound model depth n Node → All (λ a. Sound model depth a Attribute) (allOf Node·attribute (message model n))
-  unfolding allOf Rows·computes Lists·computes kindOf deeper
+  unfolding allOf Rows·computes kindOf deeper
   attributes-sound depth n s = opens-kept Node depth n (λ g. eqb Node·attribute (g .number)) Attribute (λ g t. rw (← (eqb→eq Node·attribute (g .number) t)) refl) (s .1)
 
   bodies-sound : (depth : ℕ) (a : Field) → Sound model depth a Attribute → All (λ b. Sound model depth b Graph) (bodiesOf (message model a))
-  unfolding bodiesOf Rows·computes Lists·computes kindOf deeper
+  unfolding bodiesOf Rows·computes kindOf deeper
   bodies-sound depth a s = opens-kept Attribute depth a (λ g. eqb Attribute·g (g .number) || eqb Attribute·graphs (g .number)) Graph (λ g t. go g (or-cases (eqb Attribute·g (g .number)) (eqb Attribute·graphs (g .number)) t)) (s .1)
     where
-      go : (g : Field) → T (eqb Attribute·g (g .number)) ⊎ T (eqb Attribute·graphs (g .number)) → kindOf (lookup (g .number) (rows Attribute)) ≡ some Graph
+      go : (g : Field) → T (eqb Attribute·g (g .number)) ⊎ T (eqb Attribute·graphs (g .number)) → kindOf (rowOf Attribute (g .number)) ≡ some Graph
       go g (inl t) = rw (← (eqb→eq Attribute·g (g .number) t)) refl
       go g (inr t) = rw (← (eqb→eq Attribute·graphs (g .number) t)) refl
 
@@ -92,7 +94,7 @@ module _ (model : Bytes) where
       (λ v b t. rw add-suc (depths-agree full left more (depth + 1) (omega arith) (nestedIn c) v b (t .1))) w f (all-sound depth f s)
 
   main-sound : firstWalk model ≡ pass tt → If (λ g. Sound model 0 g Graph) (firstOf Model·graph (message model (whole model)))
-  unfolding firstOf allOf Rows·computes Lists·computes kindOf firstWalk whole
+  unfolding firstOf allOf Rows·computes kindOf firstWalk whole
   main-sound w = all-first (λ g. Sound model 0 g Graph) (allOf Model·graph (message model (whole model)))
       (opens-kept Model 0 (whole model) (λ g. eqb Model·graph (g .number)) Graph (λ g t. rw (← (eqb→eq Model·graph (g .number) t)) refl) w)
 

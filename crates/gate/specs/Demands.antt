@@ -16,7 +16,7 @@ use Rattle.wire.specs.Wire.{fieldsFrom, fields}
 use Rattle.wire.specs.Message.{Message, allOf, firstOf, text, message}
 use Rattle.wire.specs.Order.{Ordered}
 use Rattle.operators.specs.Operators.{sound, entriesFrom, entriesAt}
-use Rattle.schema.specs.Rows.{Kind}
+use Rattle.schema.specs.declared.Kind.{Kind}
 use Rattle.schema.specs.Numbers.{Graph·input, ValueInfo·name, Attribute·g, Attribute·graphs}
 use Rattle.schema.specs.FirstWalk.{walk, walked, firstWalk}
 use Rattle.gate.specs.Names.{Name, bodiesOf, nameOf, nameIn, inputsOf}

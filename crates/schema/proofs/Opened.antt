@@ -7,7 +7,7 @@ use mathlib.Core.List.{List, [], _∷_}
 use mathlib.Core.Option.{Option, none, some}
 use lib.Dec.{T, leb, eqb}
 use Rattle.wire.specs.Outcome.{pass, fail, _>>=_, Rule, refuse_at:_when:_}
-use Rattle.wire.specs.Lists.{lookup}
+use Rattle.wire.specs.Lists.{contains}
 use Rattle.wire.specs.Bytes.{Bytes}
 use Rattle.wire.specs.Wire.{tag, value, field, fieldsFrom, fields}
 use Rattle.wire.specs.declared.Tag.{Tag}
@@ -15,8 +15,9 @@ use Rattle.wire.specs.declared.Field.{Field}
 use Rattle.wire.proofs.Lists.{All, If}
 use Rattle.wire.proofs.Passing.{passed-bind, passed-seq, passed-rule, passed-tells}
 use Rattle.wire.proofs.Reading.{AtTag, Follows, tag-tells, value-tells}
-use Rattle.schema.specs.Rows.{Kind, rows, isGraph}
-use Rattle.schema.specs.FirstWalk.{wrongWire, slotOf, taken, take-up, kindOf, deeper, contents, turn, walk, walked}
+use Rattle.schema.specs.declared.Kind.{Kind}
+use Rattle.schema.specs.Rows.{rowOf, isGraph}
+use Rattle.schema.specs.FirstWalk.{fits, slotOf, taken, take-up, kindOf, deeper, contents, turn, walk, walked}
 use Rattle.schema.proofs.Bound.{walk-bound}
 
 module _ (model : Bytes) where
@@ -25,7 +26,7 @@ module _ (model : Bytes) where
   Sound depth f k = T (not (isGraph k && eqb depth 8)) × (walked model k (deeper k depth) [] (f .next) (f .start) ≡ pass tt)
 
   abbrev pub Opens : Kind → (depth : ℕ) → Field → Type 0
-  Opens kind depth f = If (Sound depth f) (kindOf (lookup (f .number) (rows kind)))
+  Opens kind depth f = If (Sound depth f) (kindOf (rowOf kind (f .number)))
 
   contents-passed : (n depth : ℕ) (o : Option Kind) (f : Field) → f .next ≤ f .start + n → contents model (λ k d e p. walk model n k d [] e p) depth o f ≡ pass tt → If (Sound depth f) o
   unfolding contents
@@ -45,8 +46,8 @@ module _ (model : Bytes) where
   turn-passed n kind depth slots end pos h e =
       let a = passed-bind (tag model end pos) _ tt e in
       let t = a .0 in
-      let row = lookup (t .number) (rows kind) in
-      let b = passed-seq (refuse 4 at: pos when: wrongWire (t .wire) row) _ tt (a .2) in
+      let row = rowOf kind (t .number) in
+      let b = passed-seq (refuse 4 at: pos when: not (fits (t .wire) row)) _ tt (a .2) in
       let c = passed-seq (refuse 5 at: pos when: taken (slotOf (t .number) row) slots) _ tt (b .1) in
       let d = passed-bind (value model t end) _ tt (c .1) in
       let f = d .0 in

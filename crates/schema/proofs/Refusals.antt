@@ -8,14 +8,15 @@ use lib.ListN.{length}
 use lib.Dec.{leb, nleb→lt}
 use Rattle.wire.specs.Outcome.{Rule}
 use Rattle.wire.specs.declared.Refusal.{Refusal}
-use Rattle.wire.specs.Lists.{contains, lookup}
+use Rattle.wire.specs.Lists.{contains}
 use Rattle.wire.specs.Bytes.{Bytes}
 use Rattle.wire.specs.Wire.{tag, value}
 use Rattle.wire.specs.declared.Field.{Field}
 use Rattle.wire.proofs.Lists.{subset, contains-subset}
 use Rattle.wire.proofs.Tells.{Tells, Any, Among, tells-bind, tells-weaken, tells-rule, tells-if}
 use Rattle.wire.proofs.Reading.{Wire·refusals, AtTag, Follows, tag-tells, value-tells}
-use Rattle.schema.specs.Rows.{Kind, rows}
+use Rattle.schema.specs.declared.Kind.{Kind}
+use Rattle.schema.specs.Rows.{rowOf, isGraph}
 use Rattle.schema.specs.FirstWalk.{kindOf, deeper, contents, turn, walk, walked, firstWalk}
 
 abbrev pub FirstWalk·refusals : List ℕ
@@ -42,7 +43,7 @@ module _ (model : Bytes) where
       tells-bind (λ t. (t .place ≡ pos) × (pos < t .next)) Any (Before end) _ _ (tells-weaken _ _ (AtTag pos) (Before end) (tag model end pos) (λ t x. x) (of-reader pos end l) (tag-tells model end pos)) (λ t q.
       tells-rule Any (Before end) 4 _ _ _ (λ b. (tt, l)) (λ b. tells-rule Any (Before end) 5 _ _ _ (λ b. (tt, l)) (λ b.
       tells-bind (Follows t end) Any (Before end) _ _ (tells-weaken _ _ (AtTag (t .place)) (Before end) (value model t end) (λ f x. x) (of-reader (t .place) end (omega arith)) (value-tells model t end)) (λ f on.
-      tells-bind Any Any (Before end) _ _ (contents-tells _ (λ k d e p. walk-tells n k d [] e p) end depth (kindOf (lookup (t .number) (rows kind))) f (omega arith) (omega arith)) (λ u x.
+      tells-bind Any Any (Before end) _ _ (contents-tells _ (λ k d e p. walk-tells n k d [] e p) end depth (kindOf (rowOf kind (t .number))) f (omega arith) (omega arith)) (λ u x.
       walk-tells n kind depth _ end (f .next)))))))
 
   pub firstWalk-tells : Tells Any (Before (length model)) (firstWalk model)

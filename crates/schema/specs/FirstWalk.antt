@@ -1,42 +1,48 @@
 -- Document 01, "First walk: the wire": "The whole model is walked in byte order, depth first." First walk and second walk are the
 -- document's terms.
 use Prim.Native.Nat.{ℕ, zero, suc, _+_, _-_}
-use mathlib.Core.Bool.{Bool, true, false, not, _&&_}
+use mathlib.Core.Bool.{Bool, true, false, not, _&&_, _||_}
 use mathlib.Core.List.{List, [], _∷_}
 use mathlib.Core.Option.{Option, none, some}
 use lib.ListN.{length}
 use lib.Dec.{leb, eqb}
 use Rattle.wire.specs.Outcome.{pass, _>>=_, _>>_, Rule, refuse_at:_when:_}
-use Rattle.wire.specs.Lists.{contains, lookup}
+use Rattle.wire.specs.Lists.{contains}
 use Rattle.wire.specs.Bytes.{Bytes}
 use Rattle.wire.specs.Wire.{VARINT, LEN, I32, tag, value, Wire·computes}
 use Rattle.wire.specs.declared.Field.{Field}
-use Rattle.schema.specs.Rows.{Kind, Model, Holds, varint, bytes, four, opens, Row, once, many, packable, oneOf, rows, holds, opened, isGraph, Rows·computes}
+use Rattle.schema.specs.declared.Kind.{Kind}
+use Rattle.schema.specs.declared.Kind.the-variants.{Model}
+use Rattle.schema.specs.declared.Holds.{Holds}
+use Rattle.schema.specs.declared.Holds.the-variants as holds
+use Rattle.schema.specs.declared.Row.{Row}
+use Rattle.schema.specs.declared.Row.the-variants.{Once, Many, Packable, OneOf, Unknown}
+use Rattle.schema.specs.Rows.{rowOf, holdsOf, opened, isGraph, Rows·computes}
 
 -- ---- what a row asks of a field; of a field that no row names nothing is asked, and nothing of it is opened
 
 unfoldable pub wireOf : Holds → ℕ
-wireOf varint = VARINT
-wireOf bytes = LEN
-wireOf four = I32
-wireOf (opens k) = LEN
+wireOf holds.Varint = VARINT
+wireOf holds.Bytes = LEN
+wireOf holds.Four = I32
+wireOf (holds.Message k) = LEN
 
 -- "Fields 7 and 8 of Attribute may also come packed, wire type 2, contents unopened."
-unfoldable pub wiresOf : Row → List ℕ
-wiresOf (once name h) = wireOf h ∷ []
-wiresOf (many name h) = wireOf h ∷ []
-wiresOf (packable name h) = wireOf h ∷ LEN ∷ []
-wiresOf (oneOf name h) = wireOf h ∷ []
-
-unfoldable pub wrongWire : ℕ → Option Row → Bool
-wrongWire wire none = false
-wrongWire wire (some r) = not (contains wire (wiresOf r))
+unfoldable pub fits : ℕ → Row → Bool
+fits wire (Once h) = eqb wire (wireOf h)
+fits wire (Many h) = eqb wire (wireOf h)
+fits wire (Packable h) = eqb wire (wireOf h) || eqb wire LEN
+fits wire (OneOf h) = eqb wire (wireOf h)
+fits wire Unknown = true
 
 -- What a field uses up in its message, and only one field may: its own number, or 0 for each member of a "one of", since "A
 -- second member of a "one of" counts as a repeat."
-unfoldable pub slotOf : ℕ → Option Row → Option ℕ
-slotOf n none = none
-slotOf n (some r) = elim r [ once name h ↦ some n | many name h ↦ none | packable name h ↦ none | oneOf name h ↦ some 0 ]
+unfoldable pub slotOf : ℕ → Row → Option ℕ
+slotOf n (Once h) = some n
+slotOf n (Many h) = none
+slotOf n (Packable h) = none
+slotOf n (OneOf h) = some 0
+slotOf n Unknown = none
 
 unfoldable pub taken : Option ℕ → List ℕ → Bool
 taken none slots = false
@@ -46,9 +52,8 @@ unfoldable pub take-up : Option ℕ → List ℕ → List ℕ
 take-up none slots = slots
 take-up (some k) slots = k ∷ slots
 
-unfoldable pub kindOf : Option Row → Option Kind
-kindOf none = none
-kindOf (some r) = opened (holds r)
+unfoldable pub kindOf : Row → Option Kind
+kindOf r = elim (holdsOf r) [ none ↦ none | some h ↦ opened h ]
 
 -- The graph depth inside a message that stands at `depth`, "the main graph being depth 1".
 unfoldable pub deeper : Kind → ℕ → ℕ
@@ -69,9 +74,9 @@ module _ (model : Bytes) where
   unfoldable pub turn : (inner : Kind → (depth end pos : ℕ) → Rule) → (rest : List ℕ → ℕ → Rule) → Kind → (depth : ℕ) → (slots : List ℕ) → (end pos : ℕ) → Rule
   turn inner rest kind depth slots end pos = do
     t ← tag model end pos
-    let row = lookup (t .number) (rows kind)
+    let row = rowOf kind (t .number)
     let slot = slotOf (t .number) row
-    refuse 4 at: pos when: wrongWire (t .wire) row
+    refuse 4 at: pos when: not (fits (t .wire) row)
     refuse 5 at: pos when: taken slot slots
     f ← value model t end
     (_ : Unit {0}) ← contents inner depth (kindOf row) f
@@ -94,5 +99,5 @@ module _ (model : Bytes) where
 
 -- This file and what it is built on, for whoever computes with it.
 unfoldable pub FirstWalk·computes : Unit {0}
-unfolding Wire·computes Rows·computes wireOf wiresOf wrongWire slotOf taken take-up kindOf deeper contents turn walk walked firstWalk
+unfolding Wire·computes Rows·computes wireOf fits slotOf taken take-up kindOf deeper contents turn walk walked firstWalk
 FirstWalk·computes = tt

@@ -2,4 +2,5 @@ pub mod Rows
 pub mod Numbers
 pub mod Page
 pub mod FirstWalk
+pub mod Answers
 pub mod Samples

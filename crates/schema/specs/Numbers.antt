@@ -2,10 +2,13 @@
 use Prim.Native.Nat.{ℕ}
 use Prim.Native.String.{String}
 use mathlib.Core.Path.{_≡_, refl}
+use mathlib.Core.Bool.{Bool, true, false}
 use mathlib.Core.List.{List, [], _∷_, map}
-use mathlib.Core.Option.{none, some}
-use Rattle.wire.specs.Lists.{lookup, Lists·computes}
-use Rattle.schema.specs.Rows.{Kind, Model, OperatorSetId, Graph, Node, Attribute, Tensor, ValueInfo, TypeProto, TensorType, Shape, Dimension, once, many, packable, oneOf, rows}
+use lib.Dec.{eqb}
+use Rattle.schema.specs.declared.Kind.{Kind}
+use Rattle.schema.specs.declared.Kind.the-variants.{Model, OperatorSetId, Graph, Node, Attribute, Tensor, ValueInfo, TypeProto, TensorType, Shape, Dimension}
+use Rattle.schema.specs.declared.Row.{Row}
+use Rattle.schema.specs.Rows.{rows}
 
 abbrev pub Model·ir-version : ℕ
 Model·ir-version = 1
@@ -106,12 +109,10 @@ Dimension·dim-value = 1
 abbrev pub Dimension·dim-param : ℕ
 Dimension·dim-param = 2
 
--- The name that the table of rows has for a number.
-nameIn : Kind → ℕ → String
-nameIn k n = elim (lookup n (rows k)) [
-  | none ↦ ""
-  | some r ↦ elim r [ once name h ↦ name | many name h ↦ name | packable name h ↦ name | oneOf name h ↦ name ]
-]
+-- The name that a table of rows has for a number.
+nameIn : ℕ → List (ℕ × String × Row) → String
+nameIn n [] = ""
+nameIn n (e ∷ more) = elim (eqb n (e .0)) [ true ↦ e .1 | false ↦ nameIn n more ]
 
 numbers : List (Kind × ℕ × String)
 numbers =
@@ -150,6 +151,6 @@ numbers =
     ∷ (Dimension, Dimension·dim-param, "dim_param")
     ∷ []
 
-numbers-hold : map (λ e. nameIn (e .0) (e .1)) numbers ≡ map (λ e. e .2) numbers
-unfolding numbers nameIn rows Lists·computes
+numbers-hold : map (λ e. nameIn (e .1) (rows (e .0))) numbers ≡ map (λ e. e .2) numbers
+unfolding numbers nameIn rows
 numbers-hold = refl

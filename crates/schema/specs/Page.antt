@@ -7,7 +7,13 @@ use mathlib.Core.Bool.{true, false}
 use mathlib.Core.List.{List, [], _∷_, map}
 use lib.ListN.{getD}
 use lib.Dec.{ltb}
-use Rattle.schema.specs.Rows.{Kind, Model, OperatorSetId, Graph, Node, Attribute, Tensor, ValueInfo, TypeProto, TensorType, Shape, Dimension, Holds, varint, bytes, four, opens, Row, once, many, packable, oneOf, rows}
+use Rattle.schema.specs.declared.Kind.{Kind}
+use Rattle.schema.specs.declared.Kind.the-variants.{Model, OperatorSetId, Graph, Node, Attribute, Tensor, ValueInfo, TypeProto, TensorType, Shape, Dimension}
+use Rattle.schema.specs.declared.Holds.{Holds}
+use Rattle.schema.specs.declared.Holds.the-variants.{Varint, Bytes, Four, Message}
+use Rattle.schema.specs.declared.Row.{Row}
+use Rattle.schema.specs.declared.Row.the-variants.{Once, Many, Packable, OneOf, Unknown}
+use Rattle.schema.specs.Rows.{rows}
 
 -- A number below 100 in decimal.
 decimal : ℕ → String
@@ -17,22 +23,24 @@ decimal n = elim (ltb n 10) [ true ↦ digit n | false ↦ digit (n / 10) ++ dig
     digit k = getD ("0" ∷ "1" ∷ "2" ∷ "3" ∷ "4" ∷ "5" ∷ "6" ∷ "7" ∷ "8" ∷ "9" ∷ []) k ""
 
 letter : Holds → String
-letter varint = "v"
-letter bytes = "s"
-letter four = "f"
-letter (opens k) = "m"
+letter Varint = "v"
+letter Bytes = "s"
+letter Four = "f"
+letter (Message k) = "m"
 
 named : String → String
 named String.[] = ""
 named (String._∷_ c more) = String._∷_ c more ++ " "
 
-shown : ℕ × Row → String
-shown e = decimal (e .0) ++ " " ++ elim (e .1) [
-  | once name h ↦ named name ++ letter h
-  | many name h ↦ named name ++ letter h ++ "*"
-  | packable name h ↦ named name ++ letter h ++ "*"
-  | oneOf name h ↦ named name ++ letter h
-]
+marked : Row → String
+marked (Once h) = letter h
+marked (Many h) = letter h ++ "*"
+marked (Packable h) = letter h ++ "*"
+marked (OneOf h) = letter h
+marked Unknown = "?"
+
+shown : ℕ × String × Row → String
+shown e = decimal (e .0) ++ " " ++ named (e .1) ++ marked (e .2)
 
 joined : List String → String
 joined [] = ""
@@ -40,9 +48,9 @@ joined (s ∷ []) = s
 joined (s ∷ (t ∷ more)) = s ++ ", " ++ joined (t ∷ more)
 
 -- A table whose first row is a member of a "one of" has nothing but members.
-opening : List (ℕ × Row) → String
+opening : List (ℕ × String × Row) → String
 opening [] = ""
-opening (e ∷ more) = elim (e .1) [ once n h ↦ "" | many n h ↦ "" | packable n h ↦ "" | oneOf n h ↦ "one of: " ]
+opening (e ∷ more) = elim (e .2) [ Once h ↦ "" | Many h ↦ "" | Packable h ↦ "" | OneOf h ↦ "one of: " | Unknown ↦ "" ]
 
 line : Kind → String
 line k = opening (rows k) ++ joined (map shown (rows k))
@@ -64,5 +72,5 @@ page =
     ∷ []
 
 page-holds : map (λ l. line (l .0)) page ≡ map (λ l. l .1) page
-unfolding page line opening joined shown named letter decimal rows
+unfolding page line opening joined shown marked named letter decimal rows
 page-holds = refl

@@ -5,107 +5,110 @@ use Prim.Native.String.{String}
 use mathlib.Core.Bool.{Bool, true, false}
 use mathlib.Core.List.{List, [], _∷_}
 use mathlib.Core.Option.{Option, none, some}
+use lib.Dec.{eqb}
+use Rattle.schema.specs.declared.Kind.{Kind}
+use Rattle.schema.specs.declared.Kind.the-variants.{Model, OperatorSetId, Graph, Node, Attribute, Tensor, ValueInfo, TypeProto, TensorType, Shape, Dimension}
+use Rattle.schema.specs.declared.Holds.{Holds}
+use Rattle.schema.specs.declared.Holds.the-variants.{Varint, Bytes, Four, Message}
+use Rattle.schema.specs.declared.Row.{Row}
+use Rattle.schema.specs.declared.Row.the-variants.{Once, Many, Packable, OneOf, Unknown}
 
--- The kinds of message that the first walk opens. The document's "Type" and "Type.Tensor" are TypeProto and TensorType here.
-pub data Kind : Type 0 where
-  Model OperatorSetId Graph Node Attribute Tensor ValueInfo TypeProto TensorType Shape Dimension : Kind
-
--- What a field holds: v, s, f, or m with the message that it opens.
-pub data Holds : Type 0 where
-  varint bytes four : Holds
-  opens : Kind → Holds
-
--- A field's name, and what it holds: once in its message, any number of times, the same but perhaps packed, or once in
--- place of all the members of a "one of".
-pub data Row : Type 0 where
-  once many packable oneOf : String → Holds → Row
-
-unfoldable pub rows : Kind → List (ℕ × Row)
+-- Kind, Holds and Row are the enums of the code. The document's "Type" and "Type.Tensor" are TypeProto and TensorType here.
+unfoldable pub rows : Kind → List (ℕ × String × Row)
 rows Model =
-    (1, once "ir_version" varint)
-    ∷ (7, once "graph" (opens Graph))
-    ∷ (8, many "opset_import" (opens OperatorSetId))
-    ∷ (25, many "functions" bytes)
+    (1, "ir_version", Once Varint)
+    ∷ (7, "graph", Once (Message Graph))
+    ∷ (8, "opset_import", Many (Message OperatorSetId))
+    ∷ (25, "functions", Many Bytes)
     ∷ []
 rows OperatorSetId =
-    (1, once "domain" bytes)
-    ∷ (2, once "version" varint)
+    (1, "domain", Once Bytes)
+    ∷ (2, "version", Once Varint)
     ∷ []
 rows Graph =
-    (1, many "node" (opens Node))
-    ∷ (2, once "name" bytes)
-    ∷ (5, many "initializer" (opens Tensor))
-    ∷ (11, many "input" (opens ValueInfo))
-    ∷ (12, many "output" (opens ValueInfo))
-    ∷ (13, many "value_info" (opens ValueInfo))
-    ∷ (15, many "sparse_initializer" bytes)
+    (1, "node", Many (Message Node))
+    ∷ (2, "name", Once Bytes)
+    ∷ (5, "initializer", Many (Message Tensor))
+    ∷ (11, "input", Many (Message ValueInfo))
+    ∷ (12, "output", Many (Message ValueInfo))
+    ∷ (13, "value_info", Many (Message ValueInfo))
+    ∷ (15, "sparse_initializer", Many Bytes)
     ∷ []
 rows Node =
-    (1, many "input" bytes)
-    ∷ (2, many "output" bytes)
-    ∷ (3, once "name" bytes)
-    ∷ (4, once "op_type" bytes)
-    ∷ (5, many "attribute" (opens Attribute))
-    ∷ (7, once "domain" bytes)
+    (1, "input", Many Bytes)
+    ∷ (2, "output", Many Bytes)
+    ∷ (3, "name", Once Bytes)
+    ∷ (4, "op_type", Once Bytes)
+    ∷ (5, "attribute", Many (Message Attribute))
+    ∷ (7, "domain", Once Bytes)
     ∷ []
 rows Attribute =
-    (1, once "name" bytes)
-    ∷ (2, once "f" four)
-    ∷ (3, once "i" varint)
-    ∷ (4, once "s" bytes)
-    ∷ (5, once "t" (opens Tensor))
-    ∷ (6, once "g" (opens Graph))
-    ∷ (7, packable "floats" four)
-    ∷ (8, packable "ints" varint)
-    ∷ (9, many "strings" bytes)
-    ∷ (10, many "tensors" (opens Tensor))
-    ∷ (11, many "graphs" (opens Graph))
-    ∷ (14, once "tp" bytes)
-    ∷ (15, many "type_protos" bytes)
-    ∷ (20, once "type" varint)
-    ∷ (21, once "ref_attr_name" bytes)
-    ∷ (22, once "sparse_tensor" bytes)
-    ∷ (23, many "sparse_tensors" bytes)
+    (1, "name", Once Bytes)
+    ∷ (2, "f", Once Four)
+    ∷ (3, "i", Once Varint)
+    ∷ (4, "s", Once Bytes)
+    ∷ (5, "t", Once (Message Tensor))
+    ∷ (6, "g", Once (Message Graph))
+    ∷ (7, "floats", Packable Four)
+    ∷ (8, "ints", Packable Varint)
+    ∷ (9, "strings", Many Bytes)
+    ∷ (10, "tensors", Many (Message Tensor))
+    ∷ (11, "graphs", Many (Message Graph))
+    ∷ (14, "tp", Once Bytes)
+    ∷ (15, "type_protos", Many Bytes)
+    ∷ (20, "type", Once Varint)
+    ∷ (21, "ref_attr_name", Once Bytes)
+    ∷ (22, "sparse_tensor", Once Bytes)
+    ∷ (23, "sparse_tensors", Many Bytes)
     ∷ []
 rows Tensor =
-    (2, once "data_type" varint)
-    ∷ (8, once "name" bytes)
+    (2, "data_type", Once Varint)
+    ∷ (8, "name", Once Bytes)
     ∷ []
 rows ValueInfo =
-    (1, once "name" bytes)
-    ∷ (2, once "type" (opens TypeProto))
+    (1, "name", Once Bytes)
+    ∷ (2, "type", Once (Message TypeProto))
     ∷ []
 rows TypeProto =
-    (1, oneOf "tensor" (opens TensorType))
-    ∷ (4, oneOf "" bytes)
-    ∷ (5, oneOf "" bytes)
-    ∷ (7, oneOf "" bytes)
-    ∷ (8, oneOf "" bytes)
-    ∷ (9, oneOf "" bytes)
+    (1, "tensor", OneOf (Message TensorType))
+    ∷ (4, "", OneOf Bytes)
+    ∷ (5, "", OneOf Bytes)
+    ∷ (7, "", OneOf Bytes)
+    ∷ (8, "", OneOf Bytes)
+    ∷ (9, "", OneOf Bytes)
     ∷ []
 rows TensorType =
-    (1, once "elem_type" varint)
-    ∷ (2, once "shape" (opens Shape))
+    (1, "elem_type", Once Varint)
+    ∷ (2, "shape", Once (Message Shape))
     ∷ []
 rows Shape =
-    (1, many "dim" (opens Dimension))
+    (1, "dim", Many (Message Dimension))
     ∷ []
 rows Dimension =
-    (1, oneOf "dim_value" varint)
-    ∷ (2, oneOf "dim_param" bytes)
+    (1, "dim_value", OneOf Varint)
+    ∷ (2, "dim_param", OneOf Bytes)
     ∷ []
 
-unfoldable pub holds : Row → Holds
-holds (once name h) = h
-holds (many name h) = h
-holds (packable name h) = h
-holds (oneOf name h) = h
+-- The row of a field, by its number.
+unfoldable pub rowIn : ℕ → List (ℕ × String × Row) → Row
+rowIn n [] = Unknown
+rowIn n (e ∷ more) = elim (eqb n (e .0)) [ true ↦ e .2 | false ↦ rowIn n more ]
+
+unfoldable pub rowOf : Kind → ℕ → Row
+rowOf k n = rowIn n (rows k)
+
+unfoldable pub holdsOf : Row → Option Holds
+holdsOf (Once h) = some h
+holdsOf (Many h) = some h
+holdsOf (Packable h) = some h
+holdsOf (OneOf h) = some h
+holdsOf Unknown = none
 
 unfoldable pub opened : Holds → Option Kind
-opened varint = none
-opened bytes = none
-opened four = none
-opened (opens k) = some k
+opened Varint = none
+opened Bytes = none
+opened Four = none
+opened (Message k) = some k
 
 unfoldable pub isGraph : Kind → Bool
 isGraph Model = false
@@ -122,5 +125,5 @@ isGraph Dimension = false
 
 -- All of this file, for whoever computes with it.
 unfoldable pub Rows·computes : Unit {0}
-unfolding rows holds opened isGraph
+unfolding rows rowIn rowOf holdsOf opened isGraph
 Rows·computes = tt

@@ -6,3 +6,4 @@ pub mod Reading
 pub mod Fields
 pub mod VarintLaws
 pub mod SliceLaws
+pub mod CursorLaws

@@ -1,9 +1,49 @@
--- What each answer of the code says: the value, or the refusal.
-use Rattle.wire.specs.Outcome.{pass, fail, Judged}
+-- What each answer of the code says: a value or a refusal, and with a field the cursor after it.
+use Prim.Native.Nat.{ℕ}
+use mathlib.Core.List.{List}
+use mathlib.Core.Option.{Option, none, some}
+use lib.Dec.{eqb}
+use Rattle.wire.specs.Outcome.{pass, fail, _>>=_, Judged}
+use Rattle.wire.specs.Lists.{first, keep}
+use Rattle.wire.specs.Bytes.{Bytes}
+use Rattle.wire.specs.Wire.{fields}
 use Rattle.wire.specs.declared.Varint.{Varint}
+use Rattle.wire.specs.declared.Tag.{Tag}
+use Rattle.wire.specs.declared.Field.{Field}
+use Rattle.wire.specs.declared.Cursor.{Cursor}
 use Rattle.wire.specs.declared.VarintAnswer.{VarintAnswer}
-use Rattle.wire.specs.declared.VarintAnswer.the-variants as varint-answer
+use Rattle.wire.specs.declared.VarintAnswer.the-variants as varint
+use Rattle.wire.specs.declared.TagAnswer.{TagAnswer}
+use Rattle.wire.specs.declared.TagAnswer.the-variants as tag
+use Rattle.wire.specs.declared.FieldAnswer.{FieldAnswer}
+use Rattle.wire.specs.declared.FieldAnswer.the-variants as field
+use Rattle.wire.specs.declared.Sought.{Sought}
+use Rattle.wire.specs.declared.Sought.the-variants as sought
 
 unfoldable pub varintSays : VarintAnswer → Judged Varint
-varintSays (varint-answer.Read v) = pass v
-varintSays (varint-answer.Refused r) = fail r
+varintSays (varint.Read v) = pass v
+varintSays (varint.Refused r) = fail r
+
+unfoldable pub tagSays : TagAnswer → Judged Tag
+tagSays (tag.Read t) = pass t
+tagSays (tag.Refused r) = fail r
+
+unfoldable pub fieldSays : FieldAnswer → Judged (Field × Cursor)
+fieldSays (field.Read f c) = pass (f, c)
+fieldSays (field.Refused r) = fail r
+
+unfoldable pub soughtSays : Sought → Option (Field × Cursor)
+soughtSays (sought.Found f c) = some (f, c)
+soughtSays sought.Missing = none
+
+-- A field of a message that ends at `end`, with the cursor after it.
+unfoldable pub after : (end : ℕ) → Field → Field × Cursor
+after end f = (f, record { at = f .next; end = end })
+
+unfoldable pub withCursor : (end : ℕ) → Judged Field → Judged (Field × Cursor)
+withCursor end o = o >>= λ f. pass (after end f)
+
+-- The first field with this number among those from `pos` to `end`.
+unfoldable pub soughtIn : (model : Bytes) → (number end pos : ℕ) → Option (Field × Cursor)
+soughtIn model number end pos =
+    elim (first (keep (λ f. eqb number (f .number)) (fields model end pos))) [ none ↦ none | some f ↦ some (after end f) ]

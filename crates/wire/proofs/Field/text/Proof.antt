@@ -2,18 +2,10 @@ use Rattle.wire.specs.Message.{text}
 use borrow.Author.Needs.{needs}
 use Rattle.wire.proofs.Field.text.Statement.{statement}
 use Rattle.wire.proofs.Field.text.Tie as tie
-use Rattle.wire.proofs.Field.text.Reads as reads
-use Rattle.wire.proofs.Field.text.Lts as lts
-use Rattle.wire.proofs.slices.between.Reads as between-reads
 
--- src/slices.rt:33:9
-between-requires : tie.Need-between-requires
-between-requires c κs = search needs
-
--- src/slices.rt:28:5
 returns : tie.Need-returns
 unfolding text
 returns c = c .between .ensures
 
 pub text-spec : {M : Type 1} → statement M
-text-spec = tie.close (tie.spec between-requires returns)
+text-spec = tie.close (tie.spec (λ c κs. search needs) returns)

@@ -5,8 +5,6 @@ use Prim.Native.Nat.{_-_}
 use Rattle.wire.proofs.SliceLaws.{same-length, Comparing, compare-start, compare-end, compare-differ, compare-next}
 use Rattle.wire.proofs.slices.same_bytes.Statement.{statement}
 use Rattle.wire.proofs.slices.same_bytes.Tie as tie
-use Rattle.wire.proofs.slices.same_bytes.Reads as reads
-use Rattle.wire.proofs.slices.same_bytes.Lts as lts
 
 abbrev Inv-loop : tie.InvT-loop
 Inv-loop a b i₀ i = Comparing a b i
@@ -14,39 +12,21 @@ Inv-loop a b i₀ i = Comparing a b i
 abbrev μ-loop : tie.MeasureT-loop
 μ-loop a b i₀ i = length a - i
 
--- src/slices.rt:42:9
 returns : tie.Need-returns Inv-loop μ-loop
 returns c = same-length _ _ (c .if1 .taken)
 
--- src/slices.rt:45:5
 loop-holds : tie.Need-loop-holds Inv-loop μ-loop
 loop-holds c = compare-start _ _ (c .if1 .left)
 
--- src/slices.rt:46:12
-shared-slice-read-if2 : tie.Need-shared-slice-read-if2 Inv-loop μ-loop
-shared-slice-read-if2 c = search needs
-
--- src/slices.rt:46:20
 shared-slice-read-if2-2 : tie.Need-shared-slice-read-if2-2 Inv-loop μ-loop
 shared-slice-read-if2-2 c = omega (arith, c .before .before .before .loop .inv .long)
 
--- src/slices.rt:47:13
 returns-2 : tie.Need-returns-2 Inv-loop μ-loop
 returns-2 c = compare-differ (c .before .before .before .before .loop .inv) (c .before .before .before .loop-test .taken) (c .if2 .taken)
 
--- src/slices.rt:49:9
-add-i : tie.Need-add-i Inv-loop μ-loop
-add-i c = search needs
-
--- src/slices.rt:45:5
-loop-less : tie.Need-loop-less Inv-loop μ-loop
-loop-less c = search needs
-
--- src/slices.rt:45:5
 loop-again : tie.Need-loop-again Inv-loop μ-loop
 loop-again c = compare-next (c .before .before .before .before .loop .inv) (c .before .before .before .loop-test .taken) (c .if2 .left)
 
--- src/slices.rt:38:1
 returns-3 : tie.Need-returns-3 Inv-loop μ-loop
 returns-3 c = compare-end (c .before .loop .inv) (c .loop-test .left)
 
@@ -58,10 +38,10 @@ same-bytes-spec =
     μ-loop
     returns
     loop-holds
-    shared-slice-read-if2
+    (λ c. search needs)
     shared-slice-read-if2-2
     returns-2
-    add-i
-    loop-less
+    (λ c. search needs)
+    (λ c. search needs)
     loop-again
     returns-3)

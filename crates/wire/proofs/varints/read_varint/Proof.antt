@@ -2,15 +2,10 @@ use Rattle.wire.proofs.VarintLaws.{Reading, reading-start, last-fits, s
 use borrow.Author.Needs.{needs}
 use native.Mathlib.Omega.{arith}
 use Prim.Native.Nat.{_-_}
-use mathlib.Core.Path.{_≡_}
 use mathlib.Core.Logic.{inl, inr}
-use Rattle.wire.specs.Wire.{varintFrom, varint}
 use Rattle.wire.specs.Answers.{varintSays}
 use Rattle.wire.proofs.varints.read_varint.Statement.{statement}
 use Rattle.wire.proofs.varints.read_varint.Tie as tie
-use Rattle.wire.proofs.varints.read_varint.Reads as reads
-use Rattle.wire.proofs.varints.read_varint.Lts as lts
-use Rattle.wire.proofs.varints.byte_at.Reads as byte-at-reads
 
 abbrev Inv-loop : tie.InvT-loop
 Inv-loop s place end from pos₀ value₀ scale₀ left₀ pos value scale left = Reading s place end from value scale left pos
@@ -18,83 +13,46 @@ Inv-loop s place end from pos₀ value₀ scale₀ left₀ pos value scale left 
 abbrev μ-loop : tie.MeasureT-loop
 μ-loop s place end from pos₀ value₀ scale₀ left₀ pos value scale left = left
 
--- src/varints.rt:27:5
 loop-holds : tie.Need-loop-holds Inv-loop μ-loop
 loop-holds c = reading-start _ _ _ _
 
--- src/varints.rt:29:13
 returns : tie.Need-returns Inv-loop μ-loop
 unfolding varintSays
 returns c = turn-past (c .before .loop .inv) (c .if1 .taken)
 
--- src/varints.rt:34:13
-byte-at-requires : tie.Need-byte-at-requires Inv-loop μ-loop
-byte-at-requires c κs = search needs
-
--- src/varints.rt:37:17
 returns-2 : tie.Need-returns-2 Inv-loop μ-loop
 unfolding varintSays
 returns-2 c = turn-tenth (c .before .before .before .before .loop .inv) _ (c .before .if2 .taken) (c .before .before .before .if1 .left) (c .before .before .byte-at .ensures .0) (c .if3 .taken)
 
--- src/varints.rt:43:32
 mul-t14 : tie.Need-mul-t14 Inv-loop μ-loop
 mul-t14 c = record { fits = omega (arith, last-fits (c .before .before .before .before .loop .inv) _ (c .before .if2 .taken) (c .if3 .left)) }
 
--- src/varints.rt:43:24
 add-t15 : tie.Need-add-t15 Inv-loop μ-loop
 add-t15 c = record { fits = last-fits (c .before .before .before .before .loop .inv) _ (c .before .if2 .taken) (c .if3 .left) }
 
--- src/varints.rt:44:23
-add-t16 : tie.Need-add-t16 Inv-loop μ-loop
-add-t16 c = search needs
-
--- src/varints.rt:42:13
 returns-3 : tie.Need-returns-3 Inv-loop μ-loop
 unfolding varintSays
 returns-3 c = turn-last (c .before .before .before .before .loop .inv) _ (c .before .before .before .if1 .left) (inl (c .before .if2 .taken, c .if3 .left)) (c .before .before .byte-at .ensures .0) (omega arith)
 
--- src/varints.rt:49:32
 mul-t18 : tie.Need-mul-t18 Inv-loop μ-loop
 mul-t18 c = record { fits = omega (arith, small-fits (c .before .before .before .before .loop .inv) (c .before .before .byte-at .result) (omega arith) (omega arith)) }
 
--- src/varints.rt:49:24
 add-t19 : tie.Need-add-t19 Inv-loop μ-loop
 add-t19 c = record { fits = small-fits (c .before .before .before .before .loop .inv) (c .before .before .byte-at .result) (omega arith) (omega arith) }
 
--- src/varints.rt:50:23
-add-t20 : tie.Need-add-t20 Inv-loop μ-loop
-add-t20 c = search needs
-
--- src/varints.rt:48:13
 returns-4 : tie.Need-returns-4 Inv-loop μ-loop
 unfolding varintSays
 returns-4 c = turn-last (c .before .before .before .before .loop .inv) _ (c .before .before .before .if1 .left) (inr (c .before .if2 .left)) (c .before .before .byte-at .ensures .0) (c .if4 .taken)
 
--- src/varints.rt:53:18
 mul-value : tie.Need-mul-value Inv-loop μ-loop
 mul-value c = record { fits = omega (arith, small-fits (c .before .before .before .before .loop .inv) (c .before .before .byte-at .result - 128) (omega arith) (omega arith)) }
 
--- src/varints.rt:53:9
 add-value : tie.Need-add-value Inv-loop μ-loop
 add-value c = record { fits = small-fits (c .before .before .before .before .loop .inv) (c .before .before .byte-at .result - 128) (omega arith) (omega arith) }
 
--- src/varints.rt:54:9
 mul-scale : tie.Need-mul-scale Inv-loop μ-loop
 mul-scale c = record { fits = scale-fits (c .before .before .before .before .loop .inv) (omega arith) }
 
--- src/varints.rt:55:9
-sub-left : tie.Need-sub-left Inv-loop μ-loop
-sub-left c = search needs
-
--- src/varints.rt:56:9
-add-pos : tie.Need-add-pos Inv-loop μ-loop
-add-pos c = search needs
-
--- src/varints.rt:27:5
-loop-less : tie.Need-loop-less Inv-loop μ-loop
-loop-less c = search needs
-
--- src/varints.rt:27:5
 loop-again : tie.Need-loop-again Inv-loop μ-loop
 loop-again c = turn-more (c .before .before .before .before .loop .inv) _ (omega arith) (c .before .before .before .if1 .left) (c .before .before .byte-at .ensures .0) (c .if4 .left) (c .before .before .byte-at .ensures .1)
 
@@ -106,20 +64,20 @@ read-varint-spec =
     μ-loop
     loop-holds
     returns
-    byte-at-requires
+    (λ c κs. search needs)
     returns-2
     mul-t14
     add-t15
-    add-t16
+    (λ c. search needs)
     returns-3
     mul-t18
     add-t19
-    add-t20
+    (λ c. search needs)
     returns-4
     mul-value
     add-value
     mul-scale
-    sub-left
-    add-pos
-    loop-less
+    (λ c. search needs)
+    (λ c. search needs)
+    (λ c. search needs)
     loop-again)
