@@ -7,13 +7,13 @@ use mathlib.Core.Bool.{Bool, true}
 use mathlib.Core.List.{List, [], _∷_, _++_, flatMap}
 use mathlib.Core.Option.{Option, none, some}
 use lib.ListN.{length, length-append}
-use Rattle.wire.specs.Outcome.{pass, fail, _>>=_, _>>_, each, Judged, Rule, refused, refuse_at:_when:_}
+use Rattle.wire.specs.Outcome.{pass, _>>=_, _>>_, each, Judged, Rule, refused, refuse_at:_when:_}
 use Rattle.wire.specs.declared.Field.{Field}
 use Rattle.wire.specs.Lists.{isEmpty}
 use Rattle.wire.specs.Bytes.{Bytes}
 use Rattle.wire.specs.Message.{allOf, firstOf, text, message, whole}
 use Rattle.wire.proofs.Lists.{flat-flat}
-use Rattle.wire.proofs.Tells.{Tells, Any, any-all, tells-bind, tells-weaken, tells-seq, tells-if, tells-each}
+use Rattle.wire.proofs.Tells.{Tells, Any, any-all, anything, tells-bind, tells-weaken, tells-seq, tells-if, tells-each}
 use Rattle.schema.specs.Numbers.{Model·graph, Graph·node, Graph·name, Graph·initializer, Graph·input, Graph·output, ValueInfo·name, Tensor·name, Node·input, Node·output, Node·op-type, Node·attribute, Attribute·name}
 use Rattle.gate.specs.Names.{Name, nameIn, bodiesOf, inputsOf, bodiesIn}
 use Rattle.gate.specs.Walk.{Context, nestedIn, inMain, Walk, GraphJudge, start, withName, withNode, leaving, Along, along, naming, define}
@@ -24,17 +24,12 @@ use Rattle.gate.specs.Header.{header, secondWalkTo, secondWalk}
 use Rattle.gate.specs.Count.{nodesIn, nodesTo, nodeCount}
 use Rattle.gate.proofs.Bounds.{nodes-bound}
 
--- any outcome at all
-any : {A : Type 0} (j : Judged A) → Tells Any Any j
-any (pass a) = tt
-any (fail r) = tt
-
 -- what comes after a step of which nothing is asked
 after : {A B : Type 0} (R : B → Type 0) (j : Judged A) (f : A → Judged B) → ((a : A) → Tells R Any (f a)) → Tells R Any (j >>= f)
-after R j f h = tells-bind Any R Any j f (any j) (λ a _. h a)
+after R j f h = tells-bind Any R Any j f (anything j) (λ a _. h a)
 
 past : {B : Type 0} (R : B → Type 0) (j : Rule) (k : Judged B) → Tells R Any k → Tells R Any (j >> k)
-past R j k h = tells-seq R Any j k (any j) h
+past R j k h = tells-seq R Any j k (anything j) h
 
 -- the nodes of a state grow by those of a list
 abbrev Grows : {S : Type 0} → (S → ℕ) → S → List Field → S → Type 0

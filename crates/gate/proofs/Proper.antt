@@ -7,7 +7,7 @@ use mathlib.Core.Bool.{Bool, true}
 use mathlib.Core.List.{List, [], _∷_}
 use lib.ListN.{length}
 use lib.Dec.{T}
-use Rattle.wire.specs.Outcome.{each, refused}
+use Rattle.wire.specs.Outcome.{each}
 use Rattle.wire.specs.declared.Refusal.{Refusal}
 use Rattle.wire.specs.declared.Field.{Field}
 use Rattle.wire.specs.Lists.{isEmpty, contains}

@@ -5,7 +5,7 @@ use mathlib.Core.Path.{_≡_, refl}
 use mathlib.Core.List.{List, [], _∷_}
 use mathlib.Core.Option.{Option, none, some}
 use lib.Dec.{T, eqb, eqb-refl}
-use Rattle.wire.specs.Outcome.{Judged, refused}
+use Rattle.wire.specs.Outcome.{Judged}
 use Rattle.wire.specs.declared.Field.{Field}
 use Rattle.wire.specs.Lists.{isEmpty, contains}
 use Rattle.wire.specs.Bytes.{Bytes}

@@ -9,7 +9,6 @@ use lib.Dec.{leb, le→leb, eqb}
 use mir.Facts.{no-leb}
 use Rattle.wire.specs.Outcome.{pass, fail, _>>=_, _>>_, Judged, Rule, refuse_at:_when:_}
 use Rattle.wire.specs.declared.Refusal.{Refusal}
-use Rattle.wire.specs.Lists.{contains}
 use Rattle.wire.specs.Bytes.{Bytes}
 use Rattle.wire.specs.Wire.{tag, value}
 use Rattle.wire.specs.declared.Field.{Field}

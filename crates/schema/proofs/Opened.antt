@@ -7,7 +7,6 @@ use mathlib.Core.List.{List, [], _∷_}
 use mathlib.Core.Option.{Option, none, some}
 use lib.Dec.{T, leb, eqb}
 use Rattle.wire.specs.Outcome.{pass, fail, _>>=_, Rule, refuse_at:_when:_}
-use Rattle.wire.specs.Lists.{contains}
 use Rattle.wire.specs.Bytes.{Bytes}
 use Rattle.wire.specs.Wire.{tag, value, field, fieldsFrom, fields}
 use Rattle.wire.specs.declared.Tag.{Tag}

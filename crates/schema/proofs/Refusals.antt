@@ -16,7 +16,7 @@ use Rattle.wire.proofs.Lists.{subset, contains-subset}
 use Rattle.wire.proofs.Tells.{Tells, Any, Among, tells-bind, tells-weaken, tells-rule, tells-if}
 use Rattle.wire.proofs.Reading.{Wire·refusals, AtTag, Follows, tag-tells, value-tells}
 use Rattle.schema.specs.declared.Kind.{Kind}
-use Rattle.schema.specs.Rows.{rowOf, isGraph}
+use Rattle.schema.specs.Rows.{rowOf}
 use Rattle.schema.specs.FirstWalk.{kindOf, deeper, contents, turn, walk, walked, firstWalk}
 
 abbrev pub FirstWalk·refusals : List ℕ

@@ -2,9 +2,8 @@
 use Prim.Native.Nat.{ℕ}
 use Prim.Native.String.{String}
 use mathlib.Core.Path.{_≡_, refl, sym, ap}
-use mathlib.Core.Bool.{Bool, true, false, not, _||_}
 use mathlib.Core.Logic.{_⊎_, inl, inr}
-use mathlib.Core.List.{List, [], _∷_, map}
+use mathlib.Core.List.{List, [], _∷_}
 use lib.Dec.{T, not-T, eqb, eqb→eq}
 use Rattle.wire.specs.Lists.{contains}
 use Rattle.wire.proofs.Lists.{or-cases, or-left, or-right, T-false, subset, contains-subset}

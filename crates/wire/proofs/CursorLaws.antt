@@ -3,14 +3,13 @@ use Prim.Native.Nat.{ℕ, _+_, _-_, _/_, _%_, _^_, _<_, _≤_}
 use native.Mathlib.Omega.{arith}
 use mathlib.Core.Path.{_≡_, refl, sym, ap, _∙_}
 use mathlib.Core.Bool.{Bool, true, false, not, _||_}
-use mathlib.Core.List.{List, [], _∷_}
-use mathlib.Core.Option.{Option, none, some}
-use lib.Dec.{T, eqb}
-use borrow.Author.Tests.{lt-ltb, le-ltb, eq-eqb, ne-eqb, le-leb, lt-leb}
+use mathlib.Core.Option.{none, some}
+use lib.Dec.{eqb}
+use borrow.Author.Tests.{lt-ltb, le-ltb, eq-eqb, ne-eqb, lt-leb}
 use Rattle.wire.specs.Outcome.{pass, fail, _>>=_, _>>_, Judged, refused, refuse_at:_when:_}
 use Rattle.wire.specs.Lists.{first, keep, contains}
 use Rattle.wire.specs.Bytes.{Bytes}
-use Rattle.wire.specs.Wire.{varint, badTag, tag, sized, value, field, fields}
+use Rattle.wire.specs.Wire.{varint, badTag, tag, sized, value, field}
 use Rattle.wire.specs.Answers.{varintSays, tagSays, fieldSays, after, withCursor, soughtIn}
 use Rattle.wire.specs.declared.Refusal.{Refusal}
 use Rattle.wire.specs.declared.Varint.{Varint}

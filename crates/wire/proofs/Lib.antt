@@ -4,6 +4,8 @@ pub mod Bytes
 pub mod Passing
 pub mod Reading
 pub mod Fields
+pub mod Again
 pub mod VarintLaws
+pub mod Widths
 pub mod SliceLaws
 pub mod CursorLaws

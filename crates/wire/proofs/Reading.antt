@@ -4,7 +4,7 @@ use native.Mathlib.Omega.{arith}
 use mathlib.Core.Path.{_≡_, refl}
 use mathlib.Core.List.{List, [], _∷_}
 use lib.Dec.{ltb, eqb, nltb→le}
-use Rattle.wire.specs.Outcome.{pass, fail, _>>=_, Judged, refused}
+use Rattle.wire.specs.Outcome.{pass, fail, _>>=_, Judged}
 use Rattle.wire.specs.declared.Refusal.{Refusal}
 use Rattle.wire.specs.Lists.{contains}
 use Rattle.wire.specs.Bytes.{Bytes, byte}

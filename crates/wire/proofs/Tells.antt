@@ -26,6 +26,10 @@ any-all (a ∷ l) = (tt, any-all l)
 abbrev pub Among : List ℕ → (ℕ → Type 0) → Refusal → Type 0
 Among numbers Q r = T (contains (r .number) numbers) × Q (r .place)
 
+pub anything : {E A : Type 0} (o : Outcome E A) → Tells Any Any o
+anything (pass a) = tt
+anything (fail e) = tt
+
 module _ {E A B : Type 0} (Q : A → Type 0) (R : B → Type 0) (P : E → Type 0) where
   pub tells-bind : (o : Outcome E A) (f : A → Outcome E B) → Tells Q P o → ((a : A) → Q a → Tells R P (f a)) → Tells R P (o >>= f)
   unfolding _>>=_

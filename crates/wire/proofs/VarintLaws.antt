@@ -55,12 +55,12 @@ module _ (s : Bytes) (place end pos : ℕ) where
 -- ---- the loop
 
 -- no varint of `left` bytes or fewer is as large
-pub limit : (left : ℕ) → ℕ
+unfoldable pub limit : (left : ℕ) → ℕ
 limit zero = 1
 limit (suc zero) = 2
 limit (suc (suc left)) = 128 * limit (suc left)
 
-limit-two : (left : ℕ) → 1 ≤ left → 2 ≤ limit left
+pub limit-two : (left : ℕ) → 1 ≤ left → 2 ≤ limit left
 unfolding limit
 limit-two zero l = absurd (omega arith)
 limit-two (suc zero) l = omega arith

@@ -1,6 +1,5 @@
 -- What each answer of the code says: a value or a refusal, and with a field the cursor after it.
 use Prim.Native.Nat.{ℕ}
-use mathlib.Core.List.{List}
 use mathlib.Core.Option.{Option, none, some}
 use lib.Dec.{eqb}
 use Rattle.wire.specs.Outcome.{pass, fail, _>>=_, Judged}
