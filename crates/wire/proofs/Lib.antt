@@ -9,3 +9,5 @@ pub mod VarintLaws
 pub mod Widths
 pub mod SliceLaws
 pub mod CursorLaws
+pub mod MessageLaws
+pub mod Along

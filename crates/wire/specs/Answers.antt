@@ -35,6 +35,11 @@ unfoldable pub soughtSays : Sought → Option (Field × Cursor)
 soughtSays (sought.Found f c) = some (f, c)
 soughtSays sought.Missing = none
 
+-- What was found, whatever stands after it.
+unfoldable pub foundSays : Sought → Option Field
+foundSays (sought.Found f c) = some f
+foundSays sought.Missing = none
+
 -- A field of a message that ends at `end`, with the cursor after it.
 unfoldable pub after : (end : ℕ) → Field → Field × Cursor
 after end f = (f, record { at = f .next; end = end })

@@ -1,6 +1,7 @@
 // The wire of Protocol Buffers, read where it stands: varints, tags, fields, and the parts of a message. Nothing is copied or
 // decoded ahead, and every function answers for any bytes and any numbers. What the answers mean stands in specs/.
 mod cursors;
+mod messages;
 mod slices;
 mod varints;
 

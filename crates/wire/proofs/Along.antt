@@ -1,0 +1,146 @@
+-- A loop over the fields with one number: what is left of `each` over them, from a cursor on.
+use Prim.Native.Nat.{ℕ, zero, suc, _+_, _-_, _≤_, _<_}
+use native.Mathlib.Omega.{arith}
+use mathlib.Core.Path.{_≡_, refl, sym, ap, _∙_}
+use mathlib.Core.Bool.{Bool, true, false}
+use mathlib.Core.List.{List, [], _∷_}
+use mathlib.Core.Option.{Option, none, some}
+use lib.Dec.{T, leb, eqb, nleb→lt, not-T}
+use Rattle.wire.specs.Outcome.{pass, fail, _>>=_, each, Judged}
+use Rattle.wire.specs.Lists.{first, keep}
+use Rattle.wire.specs.Bytes.{Bytes}
+use Rattle.wire.specs.Wire.{field, fieldsFrom, fields}
+use Rattle.wire.specs.Message.{allOf, message}
+use Rattle.wire.specs.Answers.{soughtSays, after, soughtIn}
+use Rattle.wire.specs.declared.Refusal.{Refusal}
+use Rattle.wire.specs.declared.Field.{Field}
+use Rattle.wire.specs.declared.Cursor.{Cursor}
+use Rattle.wire.specs.declared.Sought.{Sought}
+use Rattle.wire.specs.declared.Sought.the-variants as sought
+use Rattle.wire.proofs.Tells.{Tells}
+use Rattle.wire.proofs.Reading.{Fits, AtTag, field-tells}
+use Rattle.wire.proofs.Fields.{fields-bound}
+use Rattle.wire.proofs.CursorLaws.{says}
+
+module _ (s : Bytes) (number end : ℕ) where
+  -- the fields with this number from `pos` on
+  unfoldable pub allFrom : (pos : ℕ) → List Field
+  allFrom pos = keep (λ f. eqb number (f .number)) (fields s end pos)
+
+  -- what stands after the first of them
+  record After (pos : ℕ) (f : Field) (rest : List Field) : Type 0 where
+    more : rest ≡ allFrom (f .next)
+    onward : pos < f .next
+    inside : f .next ≤ end
+
+  After? : (pos : ℕ) → List Field → Type 0
+  After? pos [] = Unit {0}
+  After? pos (f ∷ rest) = After pos f rest
+
+  after-kept : (n pos : ℕ) → end ≤ pos + n → After? pos (keep (λ f. eqb number (f .number)) (fieldsFrom s n end pos))
+  unfolding keep fieldsFrom After? allFrom
+  after-kept zero pos h = tt
+  after-kept (suc n) pos h = go (leb end pos) (field s end pos) (field-tells s end pos) (λ p k. after-kept n p k)
+    where
+      kept : (b : Bool) (g : Field) → Fits pos end g → After? (g .next) (keep (λ f. eqb number (f .number)) (fieldsFrom s n end (g .next))) →
+          After? pos (elim b [ true ↦ g ∷ keep (λ f. eqb number (f .number)) (fieldsFrom s n end (g .next)) | false ↦ keep (λ f. eqb number (f .number)) (fieldsFrom s n end (g .next)) ])
+      kept true g e ih = record { more = ap (λ (l : List Field). keep (λ f. eqb number (f .number)) l) (fields-bound s n end (g .next) (omega arith)); onward = omega arith; inside = omega arith }
+      kept false g e ih = later (keep (λ f. eqb number (f .number)) (fieldsFrom s n end (g .next))) ih
+        where
+          later : (l : List Field) → After? (g .next) l → After? pos l
+          later [] a = tt
+          later (f ∷ l) a = record { more = a .more; onward = (let k = a .onward in omega arith); inside = a .inside }
+
+      go : (b : Bool) (o : Judged Field) → Tells (Fits pos end) (AtTag pos) o → ((p : ℕ) → end ≤ p + n → After? p (keep (λ f. eqb number (f .number)) (fieldsFrom s n end p))) →
+          After? pos (keep (λ f. eqb number (f .number)) (elim b [ true ↦ [] | false ↦ elim o [ pass f ↦ f ∷ fieldsFrom s n end (f .next) | fail r ↦ [] ] ]))
+      go true o e ih = tt
+      go false (fail r) e ih = tt
+      go false (pass g) e ih = kept (eqb number (g .number)) g e (ih (g .next) (omega arith))
+
+  after-first : (pos : ℕ) → After? pos (allFrom pos)
+  unfolding allFrom fields
+  after-first pos = after-kept (end - pos) pos (omega arith)
+
+  -- what a search tells of the list that it searched
+  Told : List Field → Option (Field × Cursor) → Type 0
+  Told [] none = Unit {0}
+  Told [] (some p) = ⊥
+  Told (f ∷ rest) none = ⊥
+  Told (f ∷ rest) (some p) = p ≡ after end f
+
+  told : (l : List Field) → Told l (elim (first l) [ none ↦ none | some f ↦ some (after end f) ])
+  unfolding Told first
+  told [] = tt
+  told (f ∷ rest) = refl
+
+  told-sought : (pos : ℕ) {o : Option (Field × Cursor)} → o ≡ soughtIn s number end pos → Told (allFrom pos) o
+  unfolding allFrom soughtIn
+  told-sought pos e = rw e (told (allFrom pos))
+
+  all-none : (pos : ℕ) → none ≡ soughtIn s number end pos → allFrom pos ≡ []
+  unfolding Told
+  all-none pos e = go (allFrom pos) (told-sought pos e)
+    where
+      go : (l : List Field) → Told l none → l ≡ []
+      go [] h = refl
+      go (f ∷ rest) h = absurd h
+
+  record Onward (pos : ℕ) (f : Field) (next : Cursor) : Type 0 where
+    list : allFrom pos ≡ f ∷ allFrom (next .at)
+    ends : next .end ≡ end
+    onward : pos < next .at
+    inside : next .at ≤ end
+
+  all-some : (pos : ℕ) {f : Field} {next : Cursor} → some (f, next) ≡ soughtIn s number end pos → Onward pos f next
+  unfolding Told After? after
+  all-some pos {f} {next} e = go (allFrom pos) refl (told-sought pos e) (after-first pos)
+    where
+      go : (l : List Field) → allFrom pos ≡ l → Told l (some (f, next)) → After? pos l → Onward pos f next
+      go [] k h a = absurd h
+      go (g ∷ rest) k h a =
+          let x : f ≡ g = ap (λ (p : Field × Cursor). p .0) h in
+          let n : next ≡ record { at = g .next; end = end } = ap (λ (p : Field × Cursor). p .1) h in
+          let at-next : next .at ≡ g .next = ap (λ (y : Cursor). y .at) n in
+          let far = a .onward in
+          let near = a .inside in
+          record {
+            list = k ∙ ap (λ (l : List Field). g ∷ l) (a .more ∙ ap allFrom (sym at-next)) ∙ ap (λ (y : Field). y ∷ allFrom (next .at)) (sym x);
+            ends = ap (λ (y : Cursor). y .end) n;
+            onward = omega arith;
+            inside = omega arith;
+          }
+
+-- a loop that has come to the state `t` and the cursor `c`, where the whole of it answers `o`
+pub record Along {S : Type 0} (s : Bytes) (number end : ℕ) (step : S → Field → Judged S) (o : Judged S) (t : S) (c : Cursor) : Type 0 where
+  pub ends : c .end ≡ end
+  pub rest : each step t (allFrom s number end (c .at)) ≡ o
+
+pub along-start : {S : Type 0} (s : Bytes) (number : ℕ) (step : S → Field → Judged S) (t : S) (m : Field) →
+    Along s number (m .next) step (each step t (allOf number (message s m))) t (record { at = m .start; end = m .next })
+unfolding allFrom allOf message
+along-start s number step t m = record { ends = refl; rest = refl }
+
+module _ {S : Type 0} {s : Bytes} {number end : ℕ} {step : S → Field → Judged S} {o : Judged S} {t : S} {c : Cursor} (q : Along s number end step o t c) where
+  module _ {r : Sought} (read : soughtSays r ≡ soughtIn s number (c .end) (c .at)) where
+    pub along-done : r ≡ sought.Missing → o ≡ pass t
+    unfolding soughtSays each
+    along-done e = sym (q .rest) ∙ ap (each step t) (all-none s number end (c .at) (says soughtSays (rw (q .ends) at read) e))
+
+    module _ {f : Field} {next : Cursor} (e : r ≡ sought.Found f next) where
+      went : Onward s number end (c .at) f next
+      unfolding soughtSays
+      went = all-some s number end (c .at) (says soughtSays (rw (q .ends) at read) e)
+
+      pub along-fails : {x : Refusal} → step t f ≡ fail x → o ≡ fail x
+      unfolding each _>>=_
+      along-fails k = sym (q .rest) ∙ ap (each step t) (went .list) ∙ ap (λ (j : Judged S). j >>= λ u. each step u (allFrom s number end (next .at))) k
+
+      pub along-goes : {u : S} → step t f ≡ pass u → Along s number end step o u next
+      unfolding each _>>=_
+      along-goes {u} k = record {
+        ends = went .ends;
+        rest = sym (ap (each step t) (went .list) ∙ ap (λ (j : Judged S). j >>= λ v. each step v (allFrom s number end (next .at))) k) ∙ q .rest;
+      }
+
+      pub along-falls : end - next .at < end - c .at
+      along-falls = let far = went .onward in let near = went .inside in omega arith

@@ -1,0 +1,69 @@
+-- The fields of a message by number, as code looks for them.
+use Prim.Native.Nat.{ℕ}
+use mathlib.Core.Path.{_≡_, refl, ap, _∙_}
+use mathlib.Core.List.{List, []}
+use mathlib.Core.Option.{Option, none, some}
+use lib.Dec.{eqb}
+use Rattle.wire.specs.Lists.{first, keep}
+use Rattle.wire.specs.Bytes.{Bytes}
+use Rattle.wire.specs.Wire.{fields}
+use Rattle.wire.specs.Message.{allOf, firstOf, numberOf, placeOf, text, bytesOf, message}
+use Rattle.wire.specs.Answers.{soughtSays, foundSays, after, soughtIn}
+use Rattle.wire.specs.declared.Field.{Field}
+use Rattle.wire.specs.declared.Cursor.{Cursor}
+use Rattle.wire.specs.declared.Sought.{Sought}
+use Rattle.wire.specs.declared.Sought.the-variants as sought
+use Rattle.wire.proofs.CursorLaws.{says}
+
+unfoldable without : Option (Field × Cursor) → Option Field
+without none = none
+without (some p) = some (p .0)
+
+same-found : (r : Sought) → foundSays r ≡ without (soughtSays r)
+unfolding foundSays soughtSays without
+same-found (sought.Found g c) = refl
+same-found sought.Missing = refl
+
+module _ (s : Bytes) (number : ℕ) (f : Field) where
+  pub found-first : (r : Sought) → soughtSays r ≡ soughtIn s number (f .next) (f .start) → foundSays r ≡ firstOf number (message s f)
+  unfolding soughtIn firstOf allOf message after without
+  found-first r e = same-found r ∙ ap without e ∙ other (first (keep (λ g. eqb number (g .number)) (fields s (f .next) (f .start))))
+    where
+      other : (o : Option Field) → without (elim o [ none ↦ none | some g ↦ some (after (f .next) g) ]) ≡ o
+      other none = refl
+      other (some g) = refl
+
+  module _ (r : Sought) (e : foundSays r ≡ firstOf number (message s f)) where
+    module _ (k : r ≡ sought.Missing) where
+      missing : none ≡ firstOf number (message s f)
+      unfolding foundSays
+      missing = says foundSays e k
+
+      pub number-missing : 0 ≡ numberOf number (message s f)
+      unfolding numberOf
+      number-missing = ap (λ (o : Option Field). elim o [ none ↦ 0 | some g ↦ g .value ]) missing
+
+      pub place-missing : f .place ≡ placeOf number (message s f)
+      unfolding placeOf message
+      place-missing = ap (λ (o : Option Field). elim o [ none ↦ f .place | some g ↦ g .place ]) missing
+
+      pub bytes-missing : [] ≡ bytesOf s number (message s f)
+      unfolding bytesOf
+      bytes-missing = ap (λ (o : Option Field). elim o [ none ↦ [] | some g ↦ text s g ]) missing
+
+    module _ {g : Field} {c : Cursor} (k : r ≡ sought.Found g c) where
+      found : some g ≡ firstOf number (message s f)
+      unfolding foundSays
+      found = says foundSays e k
+
+      pub number-found : g .value ≡ numberOf number (message s f)
+      unfolding numberOf
+      number-found = ap (λ (o : Option Field). elim o [ none ↦ 0 | some h ↦ h .value ]) found
+
+      pub place-found : g .place ≡ placeOf number (message s f)
+      unfolding placeOf message
+      place-found = ap (λ (o : Option Field). elim o [ none ↦ f .place | some h ↦ h .place ]) found
+
+      pub bytes-found : text s g ≡ bytesOf s number (message s f)
+      unfolding bytesOf
+      bytes-found = ap (λ (o : Option Field). elim o [ none ↦ [] | some h ↦ text s h ]) found

@@ -1,0 +1,50 @@
+// The message that a field holds, its fields by number. "An absent number reads as 0, absent bytes as empty."
+ghost use mathlib.Core.Path.{_≡_};
+ghost use Rattle.wire.specs.Message.{firstOf, numberOf, placeOf, bytesOf, message};
+ghost use Rattle.wire.specs.Answers.{foundSays};
+use crate::Cursor;
+use crate::Field;
+use crate::Sought;
+use crate::slices::between;
+
+impl Field {
+    pub fn first_of(self, s: &[u8], number: u64) -> Sought
+        ensures { λ r. ⌜ foundSays r ≡ firstOf number (message (now (s .entry)) self) ⌝ }
+    {
+        let start = self.start;
+        let end = self.next;
+        let inside = Cursor {
+            at: start,
+            end: end,
+        };
+        inside.next_of(s, number)
+    }
+
+    pub fn number_of(self, s: &[u8], number: u64) -> u64
+        ensures { λ r. ⌜ r ≡ numberOf number (message (now (s .entry)) self) ⌝ }
+    {
+        match self.first_of(s, number) {
+            Sought::Found(f, _) => f.value,
+            Sought::Missing => 0,
+        }
+    }
+
+    // "the first tag byte of the field at fault; for something absent, the tag of the message that lacks it"
+    pub fn place_of(self, s: &[u8], number: u64) -> usize
+        ensures { λ r. ⌜ r ≡ placeOf number (message (now (s .entry)) self) ⌝ }
+    {
+        match self.first_of(s, number) {
+            Sought::Found(f, _) => f.place,
+            Sought::Missing => self.place,
+        }
+    }
+
+    pub fn bytes_of(self, s: &[u8], number: u64) -> &[u8]
+        ensures { λ r. ⌜ now r ≡ bytesOf (now (s .entry)) number (message (now (s .entry)) self) ⌝ }
+    {
+        match self.first_of(s, number) {
+            Sought::Found(f, _) => f.text(s),
+            Sought::Missing => between(s, 0, 0),
+        }
+    }
+}
