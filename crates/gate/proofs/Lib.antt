@@ -1,3 +1,4 @@
+pub mod IdentifierLaws
 pub mod Rules
 pub mod Matching
 pub mod Visits
