@@ -1,4 +1,6 @@
 pub mod IdentifierLaws
+pub mod RulingLaws
+pub mod TypeLaws
 pub mod Rules
 pub mod Matching
 pub mod Visits

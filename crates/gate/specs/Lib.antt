@@ -6,6 +6,7 @@ pub mod Node
 pub mod Graph
 pub mod Header
 pub mod Verdict
+pub mod Answers
 pub mod Runner
 pub mod Count
 pub mod Refusals

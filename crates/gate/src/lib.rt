@@ -1,2 +1,26 @@
 // The check in front of the runtime. Its meaning stands in specs/: Verdict.antt, Runner.antt and Demands.antt first.
 mod identifiers;
+mod numbers;
+mod rulings;
+mod types;
+
+use wire::Refusal;
+
+// A rule is kept, or is the first to be broken.
+pub enum Ruling {
+    Kept,
+    Refused(Refusal),
+}
+
+// The numbers of document 01's table that the second walk refuses with.
+impl Ruling {
+    pub const NOT_IDENTIFIER: u8 = 21;
+
+    pub const NO_TENSOR_TYPE: u8 = 24;
+
+    pub const BAD_ELEM_TYPE: u8 = 25;
+
+    pub const NO_SHAPE: u8 = 37;
+
+    pub const NEGATIVE_DIM: u8 = 38;
+}

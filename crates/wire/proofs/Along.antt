@@ -115,10 +115,14 @@ pub record Along {S : Type 0} (s : Bytes) (number end : ℕ) (step : S → Field
   pub ends : c .end ≡ end
   pub rest : each step t (allFrom s number end (c .at)) ≡ o
 
-pub along-start : {S : Type 0} (s : Bytes) (number : ℕ) (step : S → Field → Judged S) (t : S) (m : Field) →
-    Along s number (m .next) step (each step t (allOf number (message s m))) t (record { at = m .start; end = m .next })
+pub along-start : {S : Type 0} (s : Bytes) (number : ℕ) (step : S → Field → Judged S) (t : S) (c : Cursor) →
+    Along s number (c .end) step (each step t (allFrom s number (c .end) (c .at))) t c
+along-start s number step t c = record { ends = refl; rest = refl }
+
+-- the loop over the message that a field holds
+pub along-all : {S : Type 0} (s : Bytes) (number : ℕ) (step : S → Field → Judged S) (t : S) (m : Field) → each step t (allFrom s number (m .next) (m .start)) ≡ each step t (allOf number (message s m))
 unfolding allFrom allOf message
-along-start s number step t m = record { ends = refl; rest = refl }
+along-all s number step t m = refl
 
 module _ {S : Type 0} {s : Bytes} {number end : ℕ} {step : S → Field → Judged S} {o : Judged S} {t : S} {c : Cursor} (q : Along s number end step o t c) where
   module _ {r : Sought} (read : soughtSays r ≡ soughtIn s number (c .end) (c .at)) where

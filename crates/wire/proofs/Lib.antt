@@ -9,5 +9,6 @@ pub mod VarintLaws
 pub mod Widths
 pub mod SliceLaws
 pub mod CursorLaws
+pub mod Refusing
 pub mod MessageLaws
 pub mod Along

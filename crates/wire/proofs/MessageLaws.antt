@@ -35,7 +35,7 @@ module _ (s : Bytes) (number : ℕ) (f : Field) where
 
   module _ (r : Sought) (e : foundSays r ≡ firstOf number (message s f)) where
     module _ (k : r ≡ sought.Missing) where
-      missing : none ≡ firstOf number (message s f)
+      pub missing : none ≡ firstOf number (message s f)
       unfolding foundSays
       missing = says foundSays e k
 
@@ -52,7 +52,7 @@ module _ (s : Bytes) (number : ℕ) (f : Field) where
       bytes-missing = ap (λ (o : Option Field). elim o [ none ↦ [] | some g ↦ text s g ]) missing
 
     module _ {g : Field} {c : Cursor} (k : r ≡ sought.Found g c) where
-      found : some g ≡ firstOf number (message s f)
+      pub found : some g ≡ firstOf number (message s f)
       unfolding foundSays
       found = says foundSays e k
 
