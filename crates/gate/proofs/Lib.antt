@@ -1,4 +1,5 @@
 pub mod IdentifierLaws
+pub mod ScopeLaws
 pub mod Rules
 pub mod Matching
 pub mod Visits
