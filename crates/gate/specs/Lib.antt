@@ -1,6 +1,7 @@
 pub mod Identifier
 pub mod Names
 pub mod Walk
+pub mod Scope
 pub mod Types
 pub mod Node
 pub mod Graph

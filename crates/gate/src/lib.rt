@@ -2,6 +2,7 @@
 mod identifiers;
 mod numbers;
 mod rulings;
+mod scopes;
 mod types;
 
 use wire::Refusal;
@@ -16,6 +17,8 @@ pub enum Ruling {
 impl Ruling {
     pub const NOT_IDENTIFIER: u8 = 21;
 
+    pub const ALREADY_VISIBLE: u8 = 23;
+
     pub const NO_TENSOR_TYPE: u8 = 24;
 
     pub const BAD_ELEM_TYPE: u8 = 25;
@@ -23,4 +26,6 @@ impl Ruling {
     pub const NO_SHAPE: u8 = 37;
 
     pub const NEGATIVE_DIM: u8 = 38;
+
+    pub const CELLS_FULL: u8 = 40;
 }

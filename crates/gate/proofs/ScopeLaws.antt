@@ -1,0 +1,144 @@
+-- Cells as a stack of names: cleared, read, searched, and one more name stored.
+use Prim.Native.Nat.{ℕ, zero, suc, _+_, _-_, _≤_, _<_, max}
+use native.Mathlib.Omega.{arith}
+use native.Mathlib.Numerals.{add-one}
+use mathlib.Core.Path.{_≡_, refl, sym, ap, _∙_}
+use mathlib.Core.Bool.{Bool, true, false, _||_}
+use mathlib.Core.List.{List, [], _∷_, _++_, append-nil}
+use lib.ListN.{length, take, drop, getD, set, replicate, length-append, length-replicate, length-drop, drop-of-length-le}
+use lib.Seq.{getD-take, getD-set-same, getD-set-other}
+use lib.Dec.{leb}
+use borrow.Author.Fill.{fill-more}
+use borrow.Author.Tests.{le-leb, lt-leb}
+use Rattle.wire.specs.Outcome.{pass, fail, _>>_, Judged, refuse_at:_when:_}
+use Rattle.wire.specs.Bytes.{Bytes, part, same}
+use Rattle.wire.specs.Wire.{field}
+use Rattle.wire.specs.Message.{text}
+use Rattle.wire.specs.Answers.{fieldSays, withCursor}
+use Rattle.wire.specs.declared.Field.{Field}
+use Rattle.wire.specs.declared.Cursor.{Cursor}
+use Rattle.wire.specs.declared.Refusal.{Refusal}
+use Rattle.wire.specs.declared.FieldAnswer.{FieldAnswer}
+use Rattle.wire.specs.declared.FieldAnswer.the-variants as field-answer
+use Rattle.wire.proofs.CursorLaws.{answer-read, answer-refused}
+use Rattle.gate.specs.Names.{Name}
+use Rattle.gate.specs.Walk.{Walk, withName, visible, define}
+use Rattle.gate.specs.Verdict.{fills}
+use Rattle.gate.specs.Scope.{nameAt, scopeIn, definedSays}
+use Rattle.gate.specs.declared.scopes.Defined.the-variants as defined
+
+-- ---- clearing: the first `i` cells are cleared
+
+module _ (d l : List ℕ) (i : ℕ) (le : i ≤ length d) (e : l ≡ replicate i 0 ++ drop i d) where
+  pub fill-length : length l ≡ length d
+  fill-length = rw e (simp (length-append, length-replicate, length-drop) (omega arith))
+
+  pub fill-turn : i < length l → set l i 0 ≡ replicate (i + 1) 0 ++ drop (i + 1) d
+  fill-turn h = rw e (fill-more i 0 d (omega (arith, fill-length)))
+
+  pub fill-done : length l ≤ i → l ≡ replicate (length d) 0
+  fill-done h =
+      let k : i ≡ length d = omega (arith, fill-length) in
+      rw (e, drop-of-length-le d {i = i} (omega (arith, fill-length)), k) (append-nil _)
+
+module _ (model : Bytes) where
+  -- ---- the name at a place, by the answer of the cursor there
+
+  module _ (place : ℕ) {r : FieldAnswer} (read : fieldSays r ≡ withCursor (length model) (field model (length model) place)) where
+    pub name-none : {q : Refusal} → r ≡ field-answer.Refused q → (x : Bytes) → x ≡ part 0 0 model → x ≡ nameAt model place .bytes
+    unfolding nameAt part
+    name-none e x k = k ∙ rw (answer-refused model (record { at = place; end = length model }) read e) refl
+
+    pub name-read : {f : Field} {next : Cursor} → r ≡ field-answer.Read f next → (x : Bytes) → x ≡ text model f → x ≡ nameAt model place .bytes
+    unfolding nameAt
+    name-read e x k = k ∙ rw (answer-read model (record { at = place; end = length model }) read e .0) refl
+
+  -- ---- the cells as a stack
+
+  pub scope-length : (cells : List ℕ) (used : ℕ) → length (scopeIn model cells used) ≡ used
+  unfolding scopeIn
+  scope-length cells zero = refl
+  scope-length cells (suc n) = ap suc (scope-length cells n)
+
+  scope-same : (a b : List ℕ) (used : ℕ) → ((i : ℕ) → i < used → getD a i 0 ≡ getD b i 0) → scopeIn model a used ≡ scopeIn model b used
+  unfolding scopeIn
+  scope-same a b zero h = refl
+  scope-same a b (suc n) h = rw (h n (omega arith), scope-same a b n (λ i l. h i (omega arith)))
+
+  -- only the first `used` cells count
+  pub scope-prefix : (a b : List ℕ) (used n : ℕ) → n ≤ used → take used a ≡ take used b → scopeIn model a n ≡ scopeIn model b n
+  scope-prefix a b used n h e =
+      scope-same a b n (λ i l. let k : i < used = omega arith in sym (getD-take used a i 0 k) ∙ ap (λ (l : List ℕ). getD l i 0) e ∙ getD-take used b i 0 k)
+
+  -- a store puts a name on top
+  pub scope-push : (cells : List ℕ) (used place : ℕ) → used < length cells → scopeIn model (set cells used place) (used + 1) ≡ nameAt model place ∷ scopeIn model cells used
+  unfolding scopeIn
+  scope-push cells n p h =
+      rw (add-one, getD-set-same cells n p 0 h, scope-same (set cells n p) cells n (λ i l. getD-set-other cells n i p 0 (λ e. omega arith)))
+
+  scope-top : (cells : List ℕ) (i : ℕ) → 0 < i → scopeIn model cells i ≡ nameAt model (getD cells (i - 1) 0) ∷ scopeIn model cells (i - 1)
+  unfolding scopeIn
+  scope-top cells zero h = absurd (omega arith)
+  scope-top cells (suc j) h = let e : suc j - 1 ≡ j = omega arith in rw e
+
+-- ---- searching: whether the name is visible, the first `i` cells decide
+
+pub record Searching (model : Bytes) (cells : List ℕ) (used : ℕ) (name : Bytes) (i : ℕ) : Type 0 where
+  pub rest : visible name (scopeIn model cells i) ≡ visible name (scopeIn model cells used)
+
+pub search-start : (model : Bytes) (cells : List ℕ) (used : ℕ) (name : Bytes) → Searching model cells used name used
+search-start model cells used name = record { rest = refl }
+
+module _ {model : Bytes} {cells : List ℕ} {used : ℕ} {name : Bytes} {i : ℕ} (q : Searching model cells used name i) where
+  pub search-end : i ≤ 0 → false ≡ visible name (scopeIn model cells used)
+  unfolding visible scopeIn
+  search-end h = let e : i ≡ 0 = omega arith in sym (rw e) ∙ q .rest
+
+  -- p is the place in the last cell, x the name there, t the answer of the comparison
+  module _ (h : 0 < i) (p : ℕ) (ep : p ≡ getD cells (i - 1) 0) (x : Bytes) (ex : x ≡ nameAt model p .bytes) (t : Bool) (et : t ≡ same name x) where
+    search-by : t || visible name (scopeIn model cells (i - 1)) ≡ visible name (scopeIn model cells used)
+    unfolding visible
+    search-by =
+        ap (λ (u : Bool). u || visible name (scopeIn model cells (i - 1))) (et ∙ ap (same name) (ex ∙ ap (λ (r : ℕ). nameAt model r .bytes) ep))
+        ∙ ap (visible name) (sym (scope-top model cells i h))
+        ∙ q .rest
+
+    pub search-here : t ≡ true → true ≡ visible name (scopeIn model cells used)
+    search-here e = rw e at search-by
+
+    pub search-next : t ≡ false → Searching model cells used name (i - 1)
+    search-next e = record { rest = rw e at search-by }
+
+-- ---- a new name: x are its bytes, t the answer of the search for them, w a walk with the scope that the cells hold
+
+module _ (model : Bytes) (cells : List ℕ) (used place : ℕ) (x : Bytes) (ex : x ≡ nameAt model place .bytes) (t : Bool) (et : t ≡ visible x (scopeIn model cells used)) (w : Walk) (ew : w .scope ≡ scopeIn model cells used) where
+  abbrev Defining : Judged Walk
+  Defining = define (fills (length cells)) w (nameAt model place)
+
+  long : length (w .scope) ≡ used
+  long = ap length ew ∙ scope-length model cells used
+
+  define-by : Defining ≡ (refuse 23 at: place when: t >> (refuse 40 at: place when: leb (length cells) used >> pass (withName w (nameAt model place))))
+  unfolding define fills nameAt
+  define-by =
+      ap (λ (u : Bool). refuse 23 at: place when: u >> (refuse 40 at: place when: leb (length cells) (length (w .scope)) >> pass (withName w (nameAt model place)))) (ap (visible (nameAt model place .bytes)) ew ∙ ap (λ (y : Bytes). visible y (scopeIn model cells used)) (sym ex) ∙ sym et)
+      ∙ ap (λ (n : ℕ). refuse 23 at: place when: t >> (refuse 40 at: place when: leb (length cells) n >> pass (withName w (nameAt model place)))) long
+
+  pub define-twice : t ≡ true → definedSays model cells w (defined.Refused (record { number = 23; place = place })) ≡ Defining
+  unfolding definedSays _>>_ refuse_at:_when:_
+  define-twice e = sym (rw e at define-by)
+
+  module _ (e : t ≡ false) where
+    pub define-full : length cells ≤ used → definedSays model cells w (defined.Refused (record { number = 40; place = place })) ≡ Defining
+    unfolding definedSays _>>_ refuse_at:_when:_
+    define-full h = sym (rw (e, le-leb _ _ h) at define-by)
+
+    pushed : used < length cells → definedSays model (set cells used place) w (defined.Used (used + 1)) ≡ pass (withName w (nameAt model place))
+    unfolding definedSays withName
+    pushed h =
+        ap (λ (s : List Name). pass (record { scope = s; nodes = w .nodes; most = max (w .most) (used + 1) })) (scope-push model cells used place h ∙ ap (λ (s : List Name). nameAt model place ∷ s) (sym ew))
+        ∙ ap (λ (n : ℕ). pass (record { scope = nameAt model place ∷ w .scope; nodes = w .nodes; most = max (w .most) (n + 1) })) (sym long)
+
+    pub define-new : used < length cells → definedSays model (set cells used place) w (defined.Used (used + 1)) ≡ Defining
+    unfolding _>>_ refuse_at:_when:_
+    define-new h = pushed h ∙ sym (rw (e, lt-leb _ _ h) at define-by)
