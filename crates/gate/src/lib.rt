@@ -1,5 +1,6 @@
 // The check in front of the runtime. Its meaning stands in specs/: Verdict.antt, Runner.antt and Demands.antt first.
 mod identifiers;
+mod names;
 mod numbers;
 mod rulings;
 mod scopes;
@@ -22,6 +23,8 @@ impl Ruling {
     pub const NO_TENSOR_TYPE: u8 = 24;
 
     pub const BAD_ELEM_TYPE: u8 = 25;
+
+    pub const INPUT_NOT_VISIBLE: u8 = 30;
 
     pub const NO_SHAPE: u8 = 37;
 

@@ -1,0 +1,91 @@
+-- Names in the order of the code's tests.
+use Prim.Native.Nat.{ℕ}
+use native.Mathlib.Omega.{arith}
+use mathlib.Core.Path.{_≡_, refl, sym, ap, _∙_}
+use mathlib.Core.Bool.{Bool, true, false, not}
+use mathlib.Core.List.{List, [], _∷_}
+use mathlib.Core.Option.{Option, none, some}
+use lib.ListN.{length}
+use Rattle.wire.specs.Outcome.{pass, _>>_, Judged, Rule, refused, refuse_at:_when:_}
+use Rattle.wire.specs.declared.Field.{Field}
+use Rattle.wire.specs.Lists.{isEmpty}
+use Rattle.wire.specs.Bytes.{Bytes}
+use Rattle.wire.specs.Message.{firstOf, placeOf, text, bytesOf, message}
+use Rattle.wire.proofs.Refusing.{when-broken, when-kept, broken, kept}
+use Rattle.gate.specs.Identifier.{identifier}
+use Rattle.gate.specs.Names.{Name, nameOf, nameIn}
+use Rattle.gate.specs.Walk.{visible, naming}
+use Rattle.gate.specs.Node.{nodeInput}
+
+pub empty-none : (l : Bytes) → length l ≡ 0 → isEmpty l ≡ true
+unfolding isEmpty
+empty-none [] e = refl
+empty-none (b ∷ l) e = absurd (omega arith)
+
+pub empty-some : (l : Bytes) → (length l ≡ 0 → ⊥) → isEmpty l ≡ false
+unfolding isEmpty
+empty-some [] e = absurd (e refl)
+empty-some (b ∷ l) e = refl
+
+-- a message's name, by what was found of it
+module _ (model : Bytes) (empty number : ℕ) (m : Field) where
+  Rest : Bytes → ℕ → Judged Name
+  Rest x p = refuse empty at: p when: isEmpty x >> (refuse 21 at: p when: not (identifier x) >> pass (record { bytes = x; place = p }))
+
+  rest : {o : Option Field} → o ≡ firstOf number (message model m) → naming model empty number (message model m) ≡ Rest (elim o [ none ↦ [] | some f ↦ text model f ]) (elim o [ none ↦ m .place | some f ↦ f .place ])
+  unfolding naming nameOf bytesOf placeOf message Rest
+  rest k = ap (λ (o : Option Field). Rest (elim o [ none ↦ [] | some f ↦ text model f ]) (elim o [ none ↦ m .place | some f ↦ f .place ])) (sym k)
+
+  pub name-absent : none ≡ firstOf number (message model m) → refused empty (m .place) ≡ naming model empty number (message model m)
+  unfolding Rest isEmpty
+  name-absent k = sym (rest k ∙ when-broken empty (m .place) _ refl)
+
+  module _ {f : Field} (k : some f ≡ firstOf number (message model m)) {x : Bytes} (t : x ≡ text model f) where
+    pub name-empty : length x ≡ 0 → refused empty (f .place) ≡ naming model empty number (message model m)
+    unfolding Rest
+    name-empty h = sym (rest k ∙ when-broken empty (f .place) _ (ap isEmpty (sym t) ∙ empty-none x h))
+
+    module _ (h : length x ≡ 0 → ⊥) {b : Bool} (i : b ≡ identifier x) where
+      nonempty : naming model empty number (message model m) ≡ (refuse 21 at: f .place when: not (identifier (text model f)) >> pass (nameIn model f))
+      unfolding Rest nameIn
+      nonempty = rest k ∙ when-kept empty (f .place) _ (ap isEmpty (sym t) ∙ empty-some x h)
+
+      pub name-bad : b ≡ false → refused 21 (f .place) ≡ naming model empty number (message model m)
+      name-bad e = sym (nonempty ∙ when-broken 21 (f .place) _ (ap (λ (y : Bytes). not (identifier y)) (sym t) ∙ ap not (sym i) ∙ ap not e))
+
+      pub name-good : b ≡ true → pass (nameIn model f) ≡ naming model empty number (message model m)
+      name-good e = sym (nonempty ∙ when-kept 21 (f .place) _ (ap (λ (y : Bytes). not (identifier y)) (sym t) ∙ ap not (sym i) ∙ ap not e))
+
+-- an input of a node
+module _ (model : Bytes) (scope : List Name) (f : Field) {x : Bytes} (t : x ≡ text model f) where
+  Read : Rule
+  Read = refuse 21 at: f .place when: not (identifier (text model f)) >> refuse 30 at: f .place when: not (visible (text model f) scope)
+
+  input-by : {b : Bool} → isEmpty x ≡ b → nodeInput model scope tt f ≡ elim b [ true ↦ pass tt | false ↦ Read ]
+  unfolding nodeInput Read
+  input-by e = ap (λ (b : Bool). elim b [ true ↦ pass tt | false ↦ Read ]) (ap isEmpty (sym t) ∙ e)
+
+  pub input-out : length x ≡ 0 → pass tt ≡ nodeInput model scope tt f
+  input-out h = sym (input-by (empty-none x h))
+
+  module _ (h : length x ≡ 0 → ⊥) {b : Bool} (i : b ≡ identifier x) where
+    stands : not (identifier (text model f)) ≡ not b
+    stands = ap (λ (y : Bytes). not (identifier y)) (sym t) ∙ ap not (sym i)
+
+    pub input-bad : b ≡ false → refused 21 (f .place) ≡ nodeInput model scope tt f
+    unfolding Read
+    input-bad e = sym (input-by (empty-some x h) ∙ when-broken 21 (f .place) _ (stands ∙ ap not e))
+
+    module _ (e : b ≡ true) {v : Bool} (j : v ≡ visible x scope) where
+      read : nodeInput model scope tt f ≡ refuse 30 at: f .place when: not v
+      unfolding Read
+      read =
+          input-by (empty-some x h)
+          ∙ when-kept 21 (f .place) _ (stands ∙ ap not e)
+          ∙ ap (λ (y : Bool). refuse 30 at: f .place when: not y) (ap (λ (y : Bytes). visible y scope) (sym t) ∙ sym j)
+
+      pub input-visible : v ≡ true → pass tt ≡ nodeInput model scope tt f
+      input-visible k = sym (read ∙ kept 30 (f .place) (ap not k))
+
+      pub input-hidden : v ≡ false → refused 30 (f .place) ≡ nodeInput model scope tt f
+      input-hidden k = sym (read ∙ broken 30 (f .place) (ap not k))
