@@ -2,6 +2,7 @@ pub mod IdentifierLaws
 pub mod RulingLaws
 pub mod TypeLaws
 pub mod NameLaws
+pub mod ShownLaws
 pub mod ScopeLaws
 pub mod Rules
 pub mod Matching

@@ -8,6 +8,7 @@ pub mod Graph
 pub mod Header
 pub mod Verdict
 pub mod Answers
+pub mod Shown
 pub mod Runner
 pub mod Count
 pub mod Refusals

@@ -4,8 +4,10 @@ mod names;
 mod numbers;
 mod rulings;
 mod scopes;
+mod shown;
 mod types;
 
+pub use shown::show_name;
 use wire::Refusal;
 
 // A rule is kept, or is the first to be broken.
