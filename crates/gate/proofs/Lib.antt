@@ -3,6 +3,7 @@ pub mod RulingLaws
 pub mod TypeLaws
 pub mod NameLaws
 pub mod ShownLaws
+pub mod EarlierLaws
 pub mod ScopeLaws
 pub mod Rules
 pub mod Matching

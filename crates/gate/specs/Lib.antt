@@ -9,6 +9,7 @@ pub mod Header
 pub mod Verdict
 pub mod Answers
 pub mod Shown
+pub mod Earlier
 pub mod Runner
 pub mod Count
 pub mod Refusals

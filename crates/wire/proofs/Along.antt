@@ -11,6 +11,7 @@ use Rattle.wire.specs.Lists.{first, keep}
 use Rattle.wire.specs.Bytes.{Bytes}
 use Rattle.wire.specs.Wire.{field, fieldsFrom, fields}
 use Rattle.wire.specs.Message.{allOf, message}
+use Rattle.wire.specs.Order.{Ordered}
 use Rattle.wire.specs.Answers.{soughtSays, after, soughtIn}
 use Rattle.wire.specs.declared.Refusal.{Refusal}
 use Rattle.wire.specs.declared.Field.{Field}
@@ -19,7 +20,7 @@ use Rattle.wire.specs.declared.Sought.{Sought}
 use Rattle.wire.specs.declared.Sought.the-variants as sought
 use Rattle.wire.proofs.Tells.{Tells}
 use Rattle.wire.proofs.Reading.{Fits, AtTag, field-tells}
-use Rattle.wire.proofs.Fields.{fields-bound}
+use Rattle.wire.proofs.Fields.{fields-bound, fields-ordered, keep-ordered}
 use Rattle.wire.proofs.CursorLaws.{says}
 
 module _ (s : Bytes) (number end : ℕ) where
@@ -61,6 +62,10 @@ module _ (s : Bytes) (number end : ℕ) where
   unfolding allFrom fields
   after-first pos = after-kept (end - pos) pos (omega arith)
 
+  pub all-ordered : (pos : ℕ) → Ordered pos end (allFrom pos)
+  unfolding allFrom
+  all-ordered pos = keep-ordered (λ f. eqb number (f .number)) pos end (fields s end pos) (fields-ordered s end pos)
+
   -- what a search tells of the list that it searched
   Told : List Field → Option (Field × Cursor) → Type 0
   Told [] none = Unit {0}
@@ -77,7 +82,7 @@ module _ (s : Bytes) (number end : ℕ) where
   unfolding allFrom soughtIn
   told-sought pos e = rw e (told (allFrom pos))
 
-  all-none : (pos : ℕ) → none ≡ soughtIn s number end pos → allFrom pos ≡ []
+  pub all-none : (pos : ℕ) → none ≡ soughtIn s number end pos → allFrom pos ≡ []
   unfolding Told
   all-none pos e = go (allFrom pos) (told-sought pos e)
     where
@@ -85,13 +90,14 @@ module _ (s : Bytes) (number end : ℕ) where
       go [] h = refl
       go (f ∷ rest) h = absurd h
 
-  record Onward (pos : ℕ) (f : Field) (next : Cursor) : Type 0 where
-    list : allFrom pos ≡ f ∷ allFrom (next .at)
-    ends : next .end ≡ end
-    onward : pos < next .at
-    inside : next .at ≤ end
+  -- the first of them, and the cursor after it
+  pub record Onward (pos : ℕ) (f : Field) (next : Cursor) : Type 0 where
+    pub list : allFrom pos ≡ f ∷ allFrom (next .at)
+    pub ends : next .end ≡ end
+    pub onward : pos < next .at
+    pub inside : next .at ≤ end
 
-  all-some : (pos : ℕ) {f : Field} {next : Cursor} → some (f, next) ≡ soughtIn s number end pos → Onward pos f next
+  pub all-some : (pos : ℕ) {f : Field} {next : Cursor} → some (f, next) ≡ soughtIn s number end pos → Onward pos f next
   unfolding Told After? after
   all-some pos {f} {next} e = go (allFrom pos) refl (told-sought pos e) (after-first pos)
     where

@@ -74,9 +74,13 @@ module _ (model : Bytes) where
       go false (pass f) h ih = (h .0, h .1, h .2, h .3, ih (f .next))
       go false (fail r) h ih = tt
 
+  pub fields-ordered : (end pos : ℕ) → Ordered pos end (fields model end pos)
+  unfolding fields
+  fields-ordered end pos = from-ordered (end - pos) end pos
+
   pub message-ordered : (f : Field) → Ordered (f .start) (f .next) (message model f .fields)
   unfolding message fields
-  message-ordered f = from-ordered (f .next - f .start) (f .next) (f .start)
+  message-ordered f = fields-ordered (f .next) (f .start)
 
 pub ordered-widen : (lo lo′ hi hi′ : ℕ) (fs : List Field) → lo ≤ lo′ → hi′ ≤ hi → Ordered lo′ hi′ fs → Ordered lo hi fs
 ordered-widen lo lo′ hi hi′ [] l h o = tt
