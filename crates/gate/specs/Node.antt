@@ -1,7 +1,7 @@
 -- The second walk of document 01 over a node and its attributes.
 use Prim.Native.Nat.{ℕ}
 use mathlib.Core.Bool.{Bool, true, false, not, _&&_, _||_}
-use mathlib.Core.List.{List, [], _∷_}
+use mathlib.Core.List.{List, [], _∷_, map}
 use mathlib.Core.Option.{none, some}
 use lib.Dec.{eqb}
 use Rattle.wire.specs.Outcome.{pass, _>>=_, _>>_, each, Judged, Rule, refuse_at:_when:_}
@@ -35,6 +35,10 @@ carriers =
     ∷ (13, 14)
     ∷ (14, 15)
     ∷ []
+
+-- The fields that are carriers.
+unfoldable pub carrierNumbers : List ℕ
+carrierNumbers = map (λ c. c .1) carriers
 
 -- "types 4, 5, 11 or 13 lack theirs. The rest may be absent."
 unfoldable pub needed : ℕ → Bool

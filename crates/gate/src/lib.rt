@@ -1,4 +1,5 @@
 // The check in front of the runtime. Its meaning stands in specs/: Verdict.antt, Runner.antt and Demands.antt first.
+mod carriers;
 mod earlier;
 mod identifiers;
 mod names;

@@ -6,7 +6,7 @@ use mathlib.Core.Logic.{_⊎_, inl, inr}
 use mathlib.Core.List.{List, [], _∷_}
 use lib.Dec.{T, not-T, eqb, eqb→eq}
 use Rattle.wire.specs.Lists.{contains}
-use Rattle.wire.proofs.Lists.{or-cases, or-left, or-right, T-false, subset, contains-subset}
+use Rattle.wire.proofs.Lists.{or-cases, or-left, or-right, T-false, subset, contains-subset, NoneOf, none-contained}
 use Rattle.schema.specs.declared.Kind.{Kind}
 use Rattle.schema.specs.declared.Row.{Row}
 use Rattle.schema.specs.declared.Row.the-variants.{Unknown}
@@ -22,20 +22,6 @@ row-by k n e h = rw e h
 unfoldable pub numbers : List (ℕ × String × Row) → List ℕ
 numbers [] = []
 numbers (e ∷ more) = e .0 ∷ numbers more
-
--- what a `match` says of a number that none of its arms has: the last arm's number stands first
-abbrev pub NoneOf : ℕ → List ℕ → Type 0
-NoneOf n [] = Unit {0}
-NoneOf n (m ∷ more) = NoneOf n more × (n ≡ m → ⊥)
-
-none-contained : (n : ℕ) (l : List ℕ) → NoneOf n l → T (contains n l) → ⊥
-unfolding contains
-none-contained n [] h t = t
-none-contained n (m ∷ more) h t = go (or-cases (eqb n m) (contains n more) t) (none-contained n more (h .0))
-  where
-    go : T (eqb n m) ⊎ T (contains n more) → (T (contains n more) → ⊥) → ⊥
-    go (inl q) ih = h .1 (eqb→eq n m q)
-    go (inr q) ih = ih q
 
 row-missing : (n : ℕ) (l : List (ℕ × String × Row)) → (T (contains n (numbers l)) → ⊥) → Unknown ≡ rowIn n l
 unfolding numbers contains rowIn

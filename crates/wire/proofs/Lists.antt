@@ -153,3 +153,17 @@ pub flat-flat : {A B C : Type 0} (k : B → List C) (j : A → List B) (l : List
 unfolding flatMap
 flat-flat k j [] = refl
 flat-flat k j (a ∷ l) = flat-append k (j a) (flatMap j l) ∙ ap (λ (x : List _). flatMap k (j a) ++ x) (flat-flat k j l)
+
+-- what a `match` says of a number that none of its arms has: the last arm's number stands first
+abbrev pub NoneOf : ℕ → List ℕ → Type 0
+NoneOf n [] = Unit {0}
+NoneOf n (m ∷ more) = NoneOf n more × (n ≡ m → ⊥)
+
+pub none-contained : (n : ℕ) (l : List ℕ) → NoneOf n l → T (contains n l) → ⊥
+unfolding contains
+none-contained n [] h t = t
+none-contained n (m ∷ more) h t = go (or-cases (eqb n m) (contains n more) t) (none-contained n more (h .0))
+  where
+    go : T (eqb n m) ⊎ T (contains n more) → (T (contains n more) → ⊥) → ⊥
+    go (inl q) ih = h .1 (eqb→eq n m q)
+    go (inr q) ih = ih q
