@@ -4,13 +4,13 @@ use native.Mathlib.Omega.{arith}
 use native.Mathlib.Numerals.{add-one}
 use mathlib.Core.Path.{_≡_, refl, sym, ap, _∙_}
 use mathlib.Core.Bool.{Bool, true, false, _||_}
-use mathlib.Core.List.{List, [], _∷_, _++_, append-nil}
+use mathlib.Core.List.{List, _∷_, _++_, append-nil}
 use lib.ListN.{length, take, drop, getD, set, replicate, length-append, length-replicate, length-drop, drop-of-length-le}
 use lib.Seq.{getD-take, getD-set-same, getD-set-other}
 use lib.Dec.{leb}
 use borrow.Author.Fill.{fill-more}
 use borrow.Author.Tests.{le-leb, lt-leb}
-use Rattle.wire.specs.Outcome.{pass, fail, _>>_, Judged, refuse_at:_when:_}
+use Rattle.wire.specs.Outcome.{pass, _>>_, Judged, refuse_at:_when:_}
 use Rattle.wire.specs.Bytes.{Bytes, part, same}
 use Rattle.wire.specs.Wire.{field}
 use Rattle.wire.specs.Message.{text}
