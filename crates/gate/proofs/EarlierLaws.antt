@@ -40,7 +40,7 @@ reread-all model number name place text m = refl
 
 module _ {model : Bytes} {number name place : ℕ} {text : Bytes} {end start : ℕ} {c : Cursor} (q : Rereading model number name place text end start c) {r : Sought} (read : soughtSays r ≡ soughtIn model number (c .end) (c .at)) where
   pub reread-done : r ≡ sought.Missing → false ≡ member text (namesIn model name (before place (allFrom model number end start)))
-  unfolding soughtSays before keep namesIn map member
+  unfolding soughtSays before keep namesIn member
   reread-done e = ap (λ (l : List Field). member text (namesIn model name (before place l))) (sym (all-none model number end (c .at) (says soughtSays (rw (q .ends) at read) e))) ∙ q .rest
 
   module _ {f : Field} {next : Cursor} (e : r ≡ sought.Found f next) where
@@ -53,7 +53,7 @@ module _ {model : Bytes} {number name place : ℕ} {text : Bytes} {end start : �
     parted = ap (λ (l : List Field). member text (namesIn model name (before place l))) (sym (went .list)) ∙ q .rest
 
     pub reread-past : place ≤ f .place → false ≡ member text (namesIn model name (before place (allFrom model number end start)))
-    unfolding before keep namesIn map member
+    unfolding before keep namesIn member
     reread-past h = sym (ap (λ (l : List Field). member text (namesIn model name l)) none) ∙ parted
       where
         none : before place (f ∷ allFrom model number end (next .at)) ≡ []
@@ -64,7 +64,7 @@ module _ {model : Bytes} {number name place : ℕ} {text : Bytes} {end start : �
 
     module _ (h : f .place < place) {x : Bytes} (t : x ≡ bytesOf model name (message model f)) {b : Bool} (i : b ≡ same text x) where
       kept : member text (namesIn model name (before place (f ∷ allFrom model number end (next .at)))) ≡ (b || member text (namesIn model name (before place (allFrom model number end (next .at)))))
-      unfolding before keep namesIn map member
+      unfolding before keep namesIn member
       kept = rw (lt-ltb (f .place) place h, keep) (rw (i, t) refl)
 
       pub reread-here : b ≡ true → true ≡ member text (namesIn model name (before place (allFrom model number end start)))

@@ -4,6 +4,7 @@ pub mod TypeLaws
 pub mod NameLaws
 pub mod ShownLaws
 pub mod EarlierLaws
+pub mod CarrierLaws
 pub mod ScopeLaws
 pub mod Rules
 pub mod Matching

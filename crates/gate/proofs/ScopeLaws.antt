@@ -21,7 +21,8 @@ use Rattle.wire.specs.declared.Refusal.{Refusal}
 use Rattle.wire.specs.declared.FieldAnswer.{FieldAnswer}
 use Rattle.wire.specs.declared.FieldAnswer.the-variants as field-answer
 use Rattle.wire.proofs.CursorLaws.{answer-read, answer-refused}
-use Rattle.gate.specs.Names.{Name}
+use Rattle.wire.proofs.Again.{field-again}
+use Rattle.gate.specs.Names.{Name, nameIn}
 use Rattle.gate.specs.Walk.{Walk, withName, visible, define}
 use Rattle.gate.specs.Verdict.{fills}
 use Rattle.gate.specs.Scope.{nameAt, scopeIn, definedSays}
@@ -142,3 +143,10 @@ module _ (model : Bytes) (cells : List ℕ) (used place : ℕ) (x : Bytes) (ex :
     pub define-new : used < length cells → definedSays model (set cells used place) w (defined.Used (used + 1)) ≡ Defining
     unfolding _>>_ refuse_at:_when:_
     define-new h = pushed h ∙ sym (rw (e, lt-leb _ _ h) at define-by)
+
+pub name-again : (model : Bytes) (end pos : ℕ) (f : Field) → end ≤ length model → field model end pos ≡ pass f → f .place ≡ pos → nameAt model pos ≡ nameIn model f
+unfolding nameAt nameIn
+name-again model end pos f h e k =
+    let again = field-again model end (length model) h pos in
+    let q : field model (length model) pos ≡ pass f = rw e at again in
+    rw (q, k)
