@@ -2,6 +2,7 @@ pub mod IdentifierLaws
 pub mod RulingLaws
 pub mod TypeLaws
 pub mod ScopeLaws
+pub mod HeaderLaws
 pub mod Rules
 pub mod Matching
 pub mod Visits

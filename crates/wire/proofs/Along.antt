@@ -77,7 +77,7 @@ module _ (s : Bytes) (number end : ℕ) where
   unfolding allFrom soughtIn
   told-sought pos e = rw e (told (allFrom pos))
 
-  all-none : (pos : ℕ) → none ≡ soughtIn s number end pos → allFrom pos ≡ []
+  pub all-none : (pos : ℕ) → none ≡ soughtIn s number end pos → allFrom pos ≡ []
   unfolding Told
   all-none pos e = go (allFrom pos) (told-sought pos e)
     where
@@ -85,13 +85,13 @@ module _ (s : Bytes) (number end : ℕ) where
       go [] h = refl
       go (f ∷ rest) h = absurd h
 
-  record Onward (pos : ℕ) (f : Field) (next : Cursor) : Type 0 where
-    list : allFrom pos ≡ f ∷ allFrom (next .at)
-    ends : next .end ≡ end
-    onward : pos < next .at
-    inside : next .at ≤ end
+  pub record Onward (pos : ℕ) (f : Field) (next : Cursor) : Type 0 where
+    pub list : allFrom pos ≡ f ∷ allFrom (next .at)
+    pub ends : next .end ≡ end
+    pub onward : pos < next .at
+    pub inside : next .at ≤ end
 
-  all-some : (pos : ℕ) {f : Field} {next : Cursor} → some (f, next) ≡ soughtIn s number end pos → Onward pos f next
+  pub all-some : (pos : ℕ) {f : Field} {next : Cursor} → some (f, next) ≡ soughtIn s number end pos → Onward pos f next
   unfolding Told After? after
   all-some pos {f} {next} e = go (allFrom pos) refl (told-sought pos e) (after-first pos)
     where
