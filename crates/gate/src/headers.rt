@@ -42,6 +42,7 @@ fn whole(model: &[u8]) -> Field
     }
 }
 
+// "ir_version outside 4..10" is refused.
 fn is_ir_version(version: u64) -> bool
     ensures { λ r. ⌜ r ≡ within 4 10 version ⌝ }
 {
@@ -89,7 +90,7 @@ pub fn is_imported(model: &[u8], d: &[u8]) -> bool
     is_imported_before(model, model.len(), d)
 }
 
-// "each import in order (13 then 14)"
+// "each import in order (13 then 14)": the domain is imported already, or the operator list lacks its version.
 fn opset_import(model: &[u8], list: &[u8], f: Field) -> Ruling
     ensures { λ r. ⌜ rulingSays r ≡ silent (opsetImport (now (model .entry)) (now (list .entry)) (importsBefore (now (model .entry)) (f .place)) f) ⌝ }
 {
@@ -103,6 +104,8 @@ fn opset_import(model: &[u8], list: &[u8], f: Field) -> Ruling
     Ruling::Kept
 }
 
+// An import that is passed has a domain that is new and listed: there are never more of them to read again than the list has
+// entries.
 fn opset_imports(model: &[u8], list: &[u8]) -> Ruling
     ensures { λ r. ⌜ rulingSays r ≡ silent (each (opsetImport (now (model .entry)) (now (list .entry))) [] (allOf Model·opset-import (message (now (model .entry)) (whole (now (model .entry)))))) ⌝ }
 {
