@@ -93,7 +93,11 @@ foreign-more mine place (e ∷ cs) f fs = go (eqb (e .1) (f .number)) refl (eqb 
         r ≡ ((not (eqb (f .number) mine) && contains (f .number) (map (λ c. c .1) cs)) || foreign mine cs (Holding place fs)) →
         ((not (eqb (e .1) mine) && not (isEmpty {A = Field} (elim b [ true ↦ f ∷ keep (λ g. eqb (e .1) (g .number)) fs | false ↦ keep (λ g. eqb (e .1) (g .number)) fs ]))) || r)
         ≡ ((not (eqb (f .number) mine) && (d || contains (f .number) (map (λ c. c .1) cs))) || ((not (eqb (e .1) mine) && not (isEmpty (keep (λ g. eqb (e .1) (g .number)) fs))) || foreign mine cs (Holding place fs)))
-    go true h true k r ih = rw ih (one _ _ _ _ _ (ap (λ (n : ℕ). not (eqb n mine)) (eqb→eq (e .1) (f .number) (true-T _ h))))
-    go true h false k r ih = absurd (true≢false (sym (eq-eqb (f .number) (e .1) (sym (eqb→eq (e .1) (f .number) (true-T _ h)))) ∙ k))
-    go false h true k r ih = absurd (true≢false (sym (eq-eqb (e .1) (f .number) (sym (eqb→eq (f .number) (e .1) (true-T _ k)))) ∙ h))
-    go false h false k r ih = rw ih (swap _ _ _)
+    go true h true k r ih =
+        ap (λ (x : Bool). (not (eqb (e .1) mine) && true) || x) ih
+        ∙ one (not (eqb (e .1) mine)) (not (eqb (f .number) mine)) (contains (f .number) (map (λ c. c .1) cs)) (not (isEmpty (keep (λ g. eqb (e .1) (g .number)) fs))) (foreign mine cs (Holding place fs)) (ap (λ (n : ℕ). not (eqb n mine)) (eqb→eq (e .1) (f .number) (true-T (eqb (e .1) (f .number)) h)))
+    go true h false k r ih = absurd (true≢false (sym (eq-eqb (f .number) (e .1) (sym (eqb→eq (e .1) (f .number) (true-T (eqb (e .1) (f .number)) h)))) ∙ k))
+    go false h true k r ih = absurd (true≢false (sym (eq-eqb (e .1) (f .number) (sym (eqb→eq (f .number) (e .1) (true-T (eqb (f .number) (e .1)) k)))) ∙ h))
+    go false h false k r ih =
+        ap (λ (x : Bool). (not (eqb (e .1) mine) && not (isEmpty (keep (λ g. eqb (e .1) (g .number)) fs))) || x) ih
+        ∙ swap (not (eqb (e .1) mine) && not (isEmpty (keep (λ g. eqb (e .1) (g .number)) fs))) (not (eqb (f .number) mine) && contains (f .number) (map (λ c. c .1) cs)) (foreign mine cs (Holding place fs))

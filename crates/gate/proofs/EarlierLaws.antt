@@ -3,28 +3,46 @@ use Prim.Native.Nat.{ℕ, _-_, _≤_, _<_}
 use native.Mathlib.Omega.{arith}
 use mathlib.Core.Path.{_≡_, refl, sym, ap, _∙_}
 use mathlib.Core.Bool.{Bool, true, false, _||_}
-use mathlib.Core.List.{List, [], _∷_, map}
-use lib.Dec.{ltb}
-use mir.Facts.{no-leb}
-use borrow.Author.Tests.{lt-ltb, le-ltb}
+use mathlib.Core.List.{List, [], _∷_, _++_}
+use lib.Dec.{leb}
+use borrow.Author.Tests.{le-leb, lt-leb}
 use Rattle.wire.specs.declared.Field.{Field}
 use Rattle.wire.specs.declared.Cursor.{Cursor}
 use Rattle.wire.specs.declared.Sought.{Sought}
 use Rattle.wire.specs.declared.Sought.the-variants as sought
-use Rattle.wire.specs.Lists.{keep}
 use Rattle.wire.specs.Bytes.{Bytes, same, member}
 use Rattle.wire.specs.Order.{Ordered}
 use Rattle.wire.specs.Message.{allOf, bytesOf, message}
 use Rattle.wire.specs.Answers.{soughtSays, soughtIn}
 use Rattle.wire.proofs.CursorLaws.{says}
-use Rattle.wire.proofs.Along.{allFrom, all-ordered, Onward, all-none, all-some}
+use Rattle.wire.proofs.Along.{allFrom, Onward, all-none, all-some}
 use Rattle.gate.specs.Earlier.{before, namesIn}
 
--- none of these fields stands before a place that they all follow
-before-none : (place lo hi : ℕ) (l : List Field) → Ordered lo hi l → place ≤ lo → before place l ≡ []
-unfolding before keep
-before-none place lo hi [] o h = refl
-before-none place lo hi (f ∷ l) o h = rw (le-ltb (f .place) place (let k = o .0 in omega arith), keep) (before-none place (f .next) hi l (o .4) (let k = o .0 in let j = o .1 in let i = o .2 in omega arith))
+-- ---- fields before a place
+
+module _ (place : ℕ) (f : Field) (more : List Field) where
+  pub before-past : place ≤ f .place → before place (f ∷ more) ≡ []
+  unfolding before
+  before-past h = ap (λ (b : Bool). elim b [ true ↦ [] | false ↦ f ∷ before place more ]) (le-leb place (f .place) h)
+
+  pub before-here : f .place < place → before place (f ∷ more) ≡ f ∷ before place more
+  unfolding before
+  before-here h = ap (λ (b : Bool). elim b [ true ↦ [] | false ↦ f ∷ before place more ]) (lt-leb place (f .place) h)
+
+ordered-below : (lo hi : ℕ) (pre : List Field) (f : Field) (rest : List Field) → Ordered lo hi (pre ++ (f ∷ rest)) → lo ≤ f .place
+ordered-below lo hi [] f rest o = o .0
+ordered-below lo hi (g ∷ pre) f rest o = let k = ordered-below (g .next) hi pre f rest (o .4) in omega arith
+
+pub before-split : (lo hi : ℕ) (pre : List Field) (f : Field) (rest : List Field) → Ordered lo hi (pre ++ (f ∷ rest)) → before (f .place) (pre ++ (f ∷ rest)) ≡ pre
+before-split lo hi [] f rest o = before-past (f .place) f rest (omega arith)
+before-split lo hi (g ∷ pre) f rest o =
+    let k = ordered-below (g .next) hi pre f rest (o .4) in
+    before-here (f .place) g (pre ++ (f ∷ rest)) (omega arith) ∙ ap (λ (l : List Field). g ∷ l) (before-split (g .next) hi pre f rest (o .4))
+
+pub before-all : (lo hi : ℕ) (l : List Field) → Ordered lo hi l → before hi l ≡ l
+unfolding before
+before-all lo hi [] o = refl
+before-all lo hi (f ∷ l) o = before-here hi f l (omega arith) ∙ ap (λ (m : List Field). f ∷ m) (before-all (f .next) hi l (o .4))
 
 -- the search has come to the cursor `c`
 pub record Rereading (model : Bytes) (number name place : ℕ) (text : Bytes) (end start : ℕ) (c : Cursor) : Type 0 where
@@ -40,7 +58,7 @@ reread-all model number name place text m = refl
 
 module _ {model : Bytes} {number name place : ℕ} {text : Bytes} {end start : ℕ} {c : Cursor} (q : Rereading model number name place text end start c) {r : Sought} (read : soughtSays r ≡ soughtIn model number (c .end) (c .at)) where
   pub reread-done : r ≡ sought.Missing → false ≡ member text (namesIn model name (before place (allFrom model number end start)))
-  unfolding soughtSays before keep namesIn member
+  unfolding soughtSays before namesIn member
   reread-done e = ap (λ (l : List Field). member text (namesIn model name (before place l))) (sym (all-none model number end (c .at) (says soughtSays (rw (q .ends) at read) e))) ∙ q .rest
 
   module _ {f : Field} {next : Cursor} (e : r ≡ sought.Found f next) where
@@ -53,19 +71,15 @@ module _ {model : Bytes} {number name place : ℕ} {text : Bytes} {end start : �
     parted = ap (λ (l : List Field). member text (namesIn model name (before place l))) (sym (went .list)) ∙ q .rest
 
     pub reread-past : place ≤ f .place → false ≡ member text (namesIn model name (before place (allFrom model number end start)))
-    unfolding before keep namesIn member
-    reread-past h = sym (ap (λ (l : List Field). member text (namesIn model name l)) none) ∙ parted
-      where
-        none : before place (f ∷ allFrom model number end (next .at)) ≡ []
-        none = before-none place (f .place) end (f ∷ allFrom model number end (next .at)) (start-at (rw (went .list) at (all-ordered model number end (c .at)))) h
-          where
-            start-at : Ordered (c .at) end (f ∷ allFrom model number end (next .at)) → Ordered (f .place) end (f ∷ allFrom model number end (next .at))
-            start-at o = (omega arith, o .1, o .2, o .3, o .4)
+    unfolding namesIn member
+    reread-past h = sym (ap (λ (l : List Field). member text (namesIn model name l)) (before-past place f (allFrom model number end (next .at)) h)) ∙ parted
 
     module _ (h : f .place < place) {x : Bytes} (t : x ≡ bytesOf model name (message model f)) {b : Bool} (i : b ≡ same text x) where
       kept : member text (namesIn model name (before place (f ∷ allFrom model number end (next .at)))) ≡ (b || member text (namesIn model name (before place (allFrom model number end (next .at)))))
-      unfolding before keep namesIn member
-      kept = rw (lt-ltb (f .place) place h, keep) (rw (i, t) refl)
+      unfolding namesIn member
+      kept =
+          ap (λ (l : List Field). member text (namesIn model name l)) (before-here place f (allFrom model number end (next .at)) h)
+          ∙ ap (λ (y : Bool). y || member text (namesIn model name (before place (allFrom model number end (next .at))))) (ap (same text) (sym t) ∙ sym i)
 
       pub reread-here : b ≡ true → true ≡ member text (namesIn model name (before place (allFrom model number end start)))
       reread-here e = sym (ap (λ (y : Bool). y || member text (namesIn model name (before place (allFrom model number end (next .at))))) e) ∙ sym kept ∙ parted

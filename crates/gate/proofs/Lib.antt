@@ -6,6 +6,7 @@ pub mod ShownLaws
 pub mod EarlierLaws
 pub mod CarrierLaws
 pub mod ScopeLaws
+pub mod HeaderLaws
 pub mod Rules
 pub mod Matching
 pub mod Visits

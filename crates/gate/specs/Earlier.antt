@@ -1,16 +1,17 @@
 -- Names that stood earlier in a list, as the code sees them: it keeps none of them, and reads them again. No rule speaks of this;
 -- contracts of the code do.
 use Prim.Native.Nat.{ℕ}
-use mathlib.Core.List.{List, map}
-use lib.Dec.{ltb}
+use mathlib.Core.Bool.{true, false}
+use mathlib.Core.List.{List, [], _∷_, map}
+use lib.Dec.{leb}
 use Rattle.wire.specs.declared.Field.{Field}
-use Rattle.wire.specs.Lists.{keep}
 use Rattle.wire.specs.Bytes.{Bytes}
-use Rattle.wire.specs.Message.{Message, allOf, bytesOf, message}
+use Rattle.wire.specs.Message.{bytesOf, message}
 
--- Those of these fields that stand before a place.
+-- Those of the fields that stand before a place, where they are in wire order.
 unfoldable pub before : (place : ℕ) → List Field → List Field
-before place fs = keep (λ f. ltb (f .place) place) fs
+before place [] = []
+before place (f ∷ more) = elim (leb place (f .place)) [ true ↦ [] | false ↦ f ∷ before place more ]
 
 -- The names, in field `name`, of the messages that these fields hold.
 unfoldable pub namesIn : (model : Bytes) → (name : ℕ) → List Field → List Bytes

@@ -6,6 +6,7 @@ pub mod Types
 pub mod Node
 pub mod Graph
 pub mod Header
+pub mod Imports
 pub mod Verdict
 pub mod Answers
 pub mod Shown

@@ -1,6 +1,7 @@
 // The check in front of the runtime. Its meaning stands in specs/: Verdict.antt, Runner.antt and Demands.antt first.
 mod carriers;
 mod earlier;
+mod headers;
 mod identifiers;
 mod names;
 mod numbers;
@@ -20,6 +21,18 @@ pub enum Ruling {
 
 // The numbers of document 01's table that the second walk refuses with.
 impl Ruling {
+    pub const BAD_IR_VERSION: u8 = 10;
+
+    pub const NO_GRAPH: u8 = 11;
+
+    pub const NO_OPSET_IMPORT: u8 = 12;
+
+    pub const IMPORTED_TWICE: u8 = 13;
+
+    pub const VERSION_NOT_LISTED: u8 = 14;
+
+    pub const FUNCTIONS_PRESENT: u8 = 15;
+
     pub const NOT_IDENTIFIER: u8 = 21;
 
     pub const ALREADY_VISIBLE: u8 = 23;

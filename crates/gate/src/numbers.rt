@@ -1,4 +1,16 @@
 // The numbers of the fields that the second walk reads, message by message, as in document 01's rows.
+pub const MODEL_IR_VERSION: u64 = 1;
+
+pub const MODEL_GRAPH: u64 = 7;
+
+pub const MODEL_OPSET_IMPORT: u64 = 8;
+
+pub const MODEL_FUNCTIONS: u64 = 25;
+
+pub const OPERATOR_SET_ID_DOMAIN: u64 = 1;
+
+pub const OPERATOR_SET_ID_VERSION: u64 = 2;
+
 pub const NODE_INPUT: u64 = 1;
 
 pub const ATTRIBUTE_TYPE: u64 = 20;
