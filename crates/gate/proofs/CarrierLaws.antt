@@ -1,7 +1,7 @@
 -- The values of attributes: the table of carriers as code has it, and one pass over an attribute's fields for all its carriers.
 use Prim.Native.Nat.{ℕ, _-_, _≤_, _<_}
 use native.Mathlib.Omega.{arith}
-use mathlib.Core.Path.{_≡_, refl, sym, ap, _∙_}
+use mathlib.Core.Path.{_≡_, refl, sym, ap, _∙_, subst}
 use mathlib.Core.Logic.{_⊎_, inl, inr}
 use mathlib.Core.Bool.{Bool, true, false, not, _&&_, _||_, true≢false}
 use mathlib.Core.List.{List, [], _∷_, map}
@@ -86,9 +86,11 @@ foreign-more mine place (e ∷ cs) f fs = go (eqb (e .1) (f .number)) refl (eqb 
     swap true true c = refl
     swap true false c = refl
     swap false b c = refl
+
     one : (q p c k r : Bool) → q ≡ p → ((q && true) || ((p && c) || r)) ≡ ((p && true) || ((q && k) || r))
     one q true c k r h = rw h refl
     one q false c k r h = rw h refl
+
     go : (b : Bool) → eqb (e .1) (f .number) ≡ b → (d : Bool) → eqb (f .number) (e .1) ≡ d → (r : Bool) →
         r ≡ ((not (eqb (f .number) mine) && contains (f .number) (map (λ c. c .1) cs)) || foreign mine cs (Holding place fs)) →
         ((not (eqb (e .1) mine) && not (isEmpty {A = Field} (elim b [ true ↦ f ∷ keep (λ g. eqb (e .1) (g .number)) fs | false ↦ keep (λ g. eqb (e .1) (g .number)) fs ]))) || r)
@@ -101,3 +103,159 @@ foreign-more mine place (e ∷ cs) f fs = go (eqb (e .1) (f .number)) refl (eqb 
     go false h false k r ih =
         ap (λ (x : Bool). (not (eqb (e .1) mine) && not (isEmpty (keep (λ g. eqb (e .1) (g .number)) fs))) || x) ih
         ∙ swap (not (eqb (e .1) mine) && not (isEmpty (keep (λ g. eqb (e .1) (g .number)) fs))) (not (eqb (f .number) mine) && contains (f .number) (map (λ c. c .1) cs)) (foreign mine cs (Holding place fs))
+
+foreign-place : (mine p q : ℕ) (cs : List (ℕ × ℕ)) (fs : List Field) → foreign mine cs (Holding p fs) ≡ foreign mine cs (Holding q fs)
+unfolding foreign allOf Holding
+foreign-place mine p q [] fs = refl
+foreign-place mine p q (e ∷ cs) fs = ap (λ (x : Bool). (not (eqb (e .1) mine) && not (isEmpty (keep (λ g. eqb (e .1) (g .number)) fs))) || x) (foreign-place mine p q cs fs)
+
+module _ (mine number : ℕ) where
+  pub foreign-own : number ≡ mine → false ≡ (not (eqb number mine) && contains number carrierNumbers)
+  foreign-own e = ap (λ (b : Bool). not b && contains number carrierNumbers) (sym (eq-eqb number mine e))
+
+  pub foreign-other : (number ≡ mine → ⊥) → {b : Bool} → b ≡ contains number carrierNumbers → b ≡ (not (eqb number mine) && contains number carrierNumbers)
+  foreign-other h e = e ∙ ap (λ (b : Bool). not b && contains number carrierNumbers) (sym (ne-eqb number mine h))
+
+-- is there another carrier from `pos` on?
+pub foreignFrom : (model : Bytes) → (mine end pos : ℕ) → Bool
+foreignFrom model mine end pos = foreign mine carriers (Holding 0 (fields model end pos))
+
+pub look-all : (model : Bytes) (mine : ℕ) (a : Field) → foreignFrom model mine (a .next) (a .start) ≡ foreign mine carriers (message model a)
+unfolding foreignFrom message Holding
+look-all model mine a = foreign-place mine 0 (a .place) carriers (fields model (a .next) (a .start))
+
+-- the search has come to the cursor `c`
+pub record Looking (model : Bytes) (mine end start : ℕ) (c : Cursor) : Type 0 where
+  pub ends : c .end ≡ end
+  pub rest : foreignFrom model mine end (c .at) ≡ foreignFrom model mine end start
+
+pub look-start : (model : Bytes) (mine : ℕ) (c : Cursor) → Looking model mine (c .end) (c .at) c
+look-start model mine c = record { ends = refl; rest = refl }
+
+module _ {model : Bytes} {mine end start : ℕ} {c : Cursor} (q : Looking model mine end start c) where
+  pub look-done : end ≤ c .at → false ≡ foreignFrom model mine end start
+  unfolding foreignFrom
+  look-done h = sym (ap (λ (l : List Field). foreign mine carriers (Holding 0 l)) (fields-done model end (c .at) h) ∙ foreign-nothing mine 0 carriers) ∙ q .rest
+
+  module _ (h : c .at < end) {r : FieldAnswer} (read : fieldSays r ≡ withCursor (c .end) (field model (c .end) (c .at))) where
+    pub look-stop : {x : Refusal} → r ≡ field-answer.Refused x → false ≡ foreignFrom model mine end start
+    unfolding foreignFrom
+    look-stop {x} e = sym (ap (λ (l : List Field). foreign mine carriers (Holding 0 l)) (fields-stop model end (c .at) x h (rw (q .ends) at (answer-refused model c read e))) ∙ foreign-nothing mine 0 carriers) ∙ q .rest
+
+    module _ {f : Field} {next : Cursor} (e : r ≡ field-answer.Read f next) where
+      went : (field model end (c .at) ≡ pass f) × (next ≡ record { at = f .next; end = end })
+      went = rw (q .ends) at (answer-read model c read e)
+
+      at-next : next .at ≡ f .next
+      at-next = ap (λ (x : Cursor). x .at) (went .1)
+
+      parted : {b : Bool} → b ≡ (not (eqb (f .number) mine) && contains (f .number) carrierNumbers) → (b || foreignFrom model mine end (next .at)) ≡ foreignFrom model mine end start
+      unfolding foreignFrom carrierNumbers
+      parted k =
+          ap (λ (x : Bool). x || foreign mine carriers (Holding 0 (fields model end (next .at)))) k
+          ∙ ap (λ (n : ℕ). (not (eqb (f .number) mine) && contains (f .number) (map (λ x. x .1) carriers)) || foreign mine carriers (Holding 0 (fields model end n))) at-next
+          ∙ sym (foreign-more mine 0 carriers f (fields model end (f .next)))
+          ∙ sym (ap (λ (l : List Field). foreign mine carriers (Holding 0 l)) (fields-step model end (c .at) f h (went .0)))
+          ∙ q .rest
+
+      module _ {b : Bool} (k : b ≡ (not (eqb (f .number) mine) && contains (f .number) carrierNumbers)) where
+        pub look-here : b ≡ true → true ≡ foreignFrom model mine end start
+        look-here i = sym (ap (λ (x : Bool). x || foreignFrom model mine end (next .at)) i) ∙ parted k
+
+        pub look-next : b ≡ false → Looking model mine end start next
+        look-next i = record {
+          ends = ap (λ (x : Cursor). x .end) (went .1);
+          rest = sym (ap (λ (x : Bool). x || foreignFrom model mine end (next .at)) i) ∙ parted k;
+        }
+
+      pub look-falls : end - next .at < end - c .at
+      look-falls =
+          let g : Fits (c .at) end f = rw (went .0) at (field-tells model end (c .at)) in
+          let n = at-next in
+          omega arith
+
+-- ---- the value
+
+abbrev Absent : Option ℕ → Type 0
+Absent none = Unit {0}
+Absent (some n) = ⊥
+
+some-same : (a b : ℕ) → some a ≡ some b → a ≡ b
+some-same a b e = ap carrierBy e
+
+-- no field has the number 0, so that 0 can say that a type has no carrier
+nonzero : (n : ℕ) (l : List (ℕ × ℕ)) → contains 0 (map (λ c. c .1) l) ≡ false → lookup n l ≡ some 0 → ⊥
+unfolding lookup contains
+nonzero n [] h e = subst Absent e tt
+nonzero n (c ∷ l) h e = go (eqb n (c .0)) (eqb 0 (c .1)) refl h e (nonzero n l)
+  where
+    go : (b d : Bool) → eqb 0 (c .1) ≡ d → (d || contains 0 (map (λ x. x .1) l)) ≡ false → _≡_ {A = Option ℕ} (elim b [ true ↦ some (c .1) | false ↦ lookup n l ]) (some 0) → (contains 0 (map (λ x. x .1) l) ≡ false → lookup n l ≡ some 0 → ⊥) → ⊥
+    go b true i k x ih = true≢false k
+    go false false i k x ih = ih k x
+    go true false i k x ih = true≢false (sym (eq-eqb 0 (c .1) (sym (some-same (c .1) 0 x))) ∙ i)
+
+abbrev Missing : Option Field → Type 0
+Missing none = Unit {0}
+Missing (some f) = ⊥
+
+empty-first : (l : List Field) → none ≡ first l → isEmpty l ≡ true
+unfolding first isEmpty
+empty-first [] e = refl
+empty-first (f ∷ l) e = absurd (subst Missing e tt)
+
+some-first : (l : List Field) {g : Field} → some g ≡ first l → isEmpty l ≡ false
+unfolding first isEmpty
+some-first [] e = absurd (subst Missing (sym e) tt)
+some-first (f ∷ l) e = refl
+
+zero-free : contains 0 (map (λ c. c .1) carriers) ≡ false
+unfolding contains carriers
+zero-free = refl
+
+module _ (model : Bytes) (a : Field) {kind : ℕ} (k : kind ≡ numberOf Attribute·type (message model a)) {mine : ℕ} (c : mine ≡ elim (lookup kind carriers) [ none ↦ 0 | some n ↦ n ]) where
+  Valued : Option ℕ → Bool
+  Valued o = elim o [ none ↦ true | some n ↦ foreign n carriers (message model a) || (needed kind && isEmpty (allOf n (message model a))) ]
+
+  value-by : {o : Option ℕ} → lookup kind carriers ≡ o → Valued o ≡ badValue (numberOf Attribute·type (message model a)) (message model a)
+  unfolding badValue Valued
+  value-by e = ap Valued (sym e) ∙ ap (λ (n : ℕ). badValue n (message model a)) k
+
+  pub value-outside : mine ≡ 0 → true ≡ badValue (numberOf Attribute·type (message model a)) (message model a)
+  unfolding Valued
+  value-outside h = go (lookup kind carriers) refl (sym c ∙ h)
+    where
+      go : (o : Option ℕ) → lookup kind carriers ≡ o → carrierBy o ≡ 0 → true ≡ badValue (numberOf Attribute·type (message model a)) (message model a)
+      go none e z = value-by e
+      go (some n) e z = absurd (nonzero kind carriers zero-free (e ∙ ap some z))
+
+  module _ (h : mine ≡ 0 → ⊥) where
+    carried : lookup kind carriers ≡ some mine
+    carried = go (lookup kind carriers) c
+      where
+        go : (o : Option ℕ) → mine ≡ carrierBy o → o ≡ some mine
+        go none e = absurd (h e)
+        go (some n) e = ap some (sym e)
+
+    valued : {b n i : Bool} → b ≡ foreign mine carriers (message model a) → n ≡ needed kind → i ≡ isEmpty (allOf mine (message model a)) → (b || (n && i)) ≡ badValue (numberOf Attribute·type (message model a)) (message model a)
+    unfolding Valued
+    valued e f g = rw (e, f, g) (value-by carried)
+
+    module _ {b : Bool} (e : b ≡ foreign mine carriers (message model a)) where
+      pub value-foreign : b ≡ true → true ≡ badValue (numberOf Attribute·type (message model a)) (message model a)
+      value-foreign t = sym (ap (λ (x : Bool). x || (needed kind && isEmpty (allOf mine (message model a)))) t) ∙ valued e refl refl
+
+      module _ (t : b ≡ false) {n : Bool} (f : n ≡ needed kind) where
+        pub value-free : n ≡ false → false ≡ badValue (numberOf Attribute·type (message model a)) (message model a)
+        value-free u = sym (ap (λ (x : Bool). x || (n && isEmpty (allOf mine (message model a)))) t ∙ ap (λ (x : Bool). x && isEmpty (allOf mine (message model a))) u) ∙ valued e f refl
+
+        module _ (u : n ≡ true) where
+          held : {i : Bool} → isEmpty (allOf mine (message model a)) ≡ i → i ≡ badValue (numberOf Attribute·type (message model a)) (message model a)
+          held {i} g = sym (ap (λ (x : Bool). x || (n && i)) t ∙ ap (λ (x : Bool). x && i) u) ∙ valued e f (sym g)
+
+          pub value-lacks : none ≡ firstOf mine (message model a) → true ≡ badValue (numberOf Attribute·type (message model a)) (message model a)
+          unfolding firstOf
+          value-lacks g = held (empty-first (allOf mine (message model a)) g)
+
+          pub value-has : {x : Field} → some x ≡ firstOf mine (message model a) → false ≡ badValue (numberOf Attribute·type (message model a)) (message model a)
+          unfolding firstOf
+          value-has g = held (some-first (allOf mine (message model a)) g)
