@@ -5,6 +5,7 @@ pub mod NameLaws
 pub mod ShownLaws
 pub mod EarlierLaws
 pub mod CarrierLaws
+pub mod AttributeLaws
 pub mod ScopeLaws
 pub mod HeaderLaws
 pub mod Rules

@@ -6,16 +6,21 @@ use mathlib.Core.Bool.{Bool, true, false, not}
 use mathlib.Core.List.{List, [], _∷_}
 use mathlib.Core.Option.{Option, none, some}
 use lib.ListN.{length}
-use Rattle.wire.specs.Outcome.{pass, _>>_, Judged, Rule, refused, refuse_at:_when:_}
+use Rattle.wire.specs.Outcome.{pass, fail, _>>=_, _>>_, Judged, Rule, refused, refuse_at:_when:_}
+use Rattle.wire.specs.declared.Refusal.{Refusal}
 use Rattle.wire.specs.declared.Field.{Field}
 use Rattle.wire.specs.Lists.{isEmpty}
 use Rattle.wire.specs.Bytes.{Bytes}
 use Rattle.wire.specs.Message.{firstOf, placeOf, text, bytesOf, message}
 use Rattle.wire.proofs.Refusing.{when-broken, when-kept, broken, kept}
+use Rattle.schema.specs.Answers.{silent}
 use Rattle.gate.specs.Identifier.{identifier}
 use Rattle.gate.specs.Names.{Name, nameOf, nameIn}
 use Rattle.gate.specs.Walk.{visible, naming}
 use Rattle.gate.specs.Node.{nodeInput}
+use Rattle.gate.specs.Answers.{namingSays}
+use Rattle.gate.specs.declared.names.Naming.{Naming}
+use Rattle.gate.specs.declared.names.Naming.the-variants as naming-answer
 
 pub empty-none : (l : Bytes) → length l ≡ 0 → isEmpty l ≡ true
 unfolding isEmpty
@@ -55,6 +60,16 @@ module _ (model : Bytes) (empty number : ℕ) (m : Field) where
 
       pub name-good : b ≡ true → pass (nameIn model f) ≡ naming model empty number (message model m)
       name-good e = sym (nonempty ∙ when-kept 21 (f .place) _ (ap (λ (y : Bytes). not (identifier y)) (sym t) ∙ ap not (sym i) ∙ ap not e))
+
+-- the ruling on a name that may not stand
+module _ {n : Naming} (model : Bytes) where
+  pub misnaming-refused : {r : Refusal} → n ≡ naming-answer.Refused r → fail r ≡ silent (namingSays model n)
+  unfolding namingSays silent _>>=_
+  misnaming-refused k = ap (λ (m : Naming). silent (namingSays model m)) (sym k)
+
+  pub misnaming-named : {f : Field} → n ≡ naming-answer.Named f → pass tt ≡ silent (namingSays model n)
+  unfolding namingSays silent _>>=_
+  misnaming-named k = ap (λ (m : Naming). silent (namingSays model m)) (sym k)
 
 -- an input of a node
 module _ (model : Bytes) (scope : List Name) (f : Field) {x : Bytes} (t : x ≡ text model f) where

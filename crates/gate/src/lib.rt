@@ -1,4 +1,5 @@
 // The check in front of the runtime. Its meaning stands in specs/: Verdict.antt, Runner.antt and Demands.antt first.
+mod attributes;
 mod carriers;
 mod earlier;
 mod headers;
@@ -35,6 +36,8 @@ impl Ruling {
 
     pub const NOT_IDENTIFIER: u8 = 21;
 
+    pub const NAME_EMPTY: u8 = 22;
+
     pub const ALREADY_VISIBLE: u8 = 23;
 
     pub const NO_TENSOR_TYPE: u8 = 24;
@@ -42,6 +45,12 @@ impl Ruling {
     pub const BAD_ELEM_TYPE: u8 = 25;
 
     pub const INPUT_NOT_VISIBLE: u8 = 30;
+
+    pub const ATTRIBUTE_TWICE: u8 = 31;
+
+    pub const BAD_VALUE: u8 = 32;
+
+    pub const REFERENCE_PRESENT: u8 = 33;
 
     pub const NO_SHAPE: u8 = 37;
 

@@ -4,6 +4,7 @@ ghost use Rattle.wire.specs.Outcome.{each, refused};
 ghost use Rattle.wire.specs.Bytes.{Bytes};
 ghost use Rattle.wire.specs.Message.{allOf, message};
 ghost use Rattle.schema.specs.Numbers.{Node·input};
+ghost use Rattle.schema.specs.Answers.{silent};
 ghost use Rattle.gate.specs.Walk.{naming};
 ghost use Rattle.gate.specs.Node.{nodeInput};
 ghost use Rattle.gate.specs.Scope.{scopeIn};
@@ -48,6 +49,16 @@ pub fn read_name(model: &[u8], m: Field, number: u64, empty: u8) -> Naming
         return misnamed(Ruling::NOT_IDENTIFIER, name.place);
     }
     Naming::Named(name)
+}
+
+// The ruling on a name that may not stand.
+pub fn misnaming(n: Naming) -> Ruling
+    ensures { λ r. ⌜ ((model : Bytes) → rulingSays r ≡ silent (namingSays model n)) ⌝ }
+{
+    match n {
+        Naming::Refused(r) => Ruling::Refused(r),
+        Naming::Named(_) => Ruling::Kept,
+    }
 }
 
 // "An empty input or output means "left out" and is passed over. Input: 21, 30."

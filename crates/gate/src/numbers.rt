@@ -13,7 +13,13 @@ pub const OPERATOR_SET_ID_VERSION: u64 = 2;
 
 pub const NODE_INPUT: u64 = 1;
 
+pub const NODE_ATTRIBUTE: u64 = 5;
+
+pub const ATTRIBUTE_NAME: u64 = 1;
+
 pub const ATTRIBUTE_TYPE: u64 = 20;
+
+pub const ATTRIBUTE_REF_ATTR_NAME: u64 = 21;
 
 pub const VALUE_INFO_TYPE: u64 = 2;
 

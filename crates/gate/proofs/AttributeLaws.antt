@@ -1,0 +1,113 @@
+-- An attribute's rules in the order of the code's tests.
+use Prim.Native.Nat.{ℕ}
+use mathlib.Core.Path.{_≡_, refl, sym, ap, _∙_}
+use mathlib.Core.Bool.{Bool, true, false, not}
+use mathlib.Core.List.{List, [], _∷_}
+use lib.ListN.{length}
+use Rattle.wire.specs.Outcome.{pass, fail, _>>=_, _>>_, each, Judged, Rule, refused, refuse_at:_when:_}
+use Rattle.wire.specs.declared.Refusal.{Refusal}
+use Rattle.wire.specs.declared.Field.{Field}
+use Rattle.wire.specs.Lists.{isEmpty}
+use Rattle.wire.specs.Bytes.{Bytes, member}
+use Rattle.wire.specs.Message.{Message, numberOf, text, bytesOf, message}
+use Rattle.wire.proofs.CursorLaws.{says}
+use Rattle.wire.proofs.Refusing.{when-broken, when-kept, broken, kept}
+use Rattle.schema.specs.Numbers.{Attribute·name, Attribute·type, Attribute·ref-attr-name}
+use Rattle.schema.specs.Answers.{silent}
+use Rattle.gate.specs.Names.{Name, nameIn, bodiesOf}
+use Rattle.gate.specs.Walk.{Walk, start, Along, leaving, naming}
+use Rattle.gate.specs.Node.{badValue, body, attribute}
+use Rattle.gate.specs.Earlier.{passing, after}
+use Rattle.gate.specs.Answers.{namingSays}
+use Rattle.gate.specs.declared.names.Naming.{Naming}
+use Rattle.gate.specs.declared.names.Naming.the-variants as naming-answer
+use Rattle.gate.proofs.NameLaws.{empty-none, empty-some}
+
+-- ---- answers of which only the refusal matters
+
+silent-rule : {A : Type 0} (n p : ℕ) (b : Bool) (o : Judged A) → silent (refuse n at: p when: b >> o) ≡ (refuse n at: p when: b >> silent o)
+unfolding silent refuse_at:_when:_ _>>_ _>>=_
+silent-rule n p true o = refl
+silent-rule n p false o = refl
+
+silent-last : {A : Type 0} (n p : ℕ) (b : Bool) (o : Judged A) → silent o ≡ pass tt → silent (refuse n at: p when: b >> o) ≡ refuse n at: p when: b
+unfolding silent refuse_at:_when:_ _>>_ _>>=_
+silent-last n p true o h = refl
+silent-last n p false o h = h
+
+silent-bind : {A B : Type 0} (o : Judged A) (k : A → Judged B) (l : A → Rule) → ((a : A) → silent (k a) ≡ l a) → silent (o >>= k) ≡ (o >>= l)
+unfolding silent _>>=_
+silent-bind (pass a) k l h = h a
+silent-bind (fail r) k l h = refl
+
+-- ---- the rules
+
+bodies-pass : (w : Walk) (l : List Field) → each (body passing) w l ≡ pass w
+unfolding each body passing leaving _>>=_
+bodies-pass w [] = refl
+bodies-pass w (f ∷ l) = bodies-pass w l
+
+module _ (model : Bytes) (names : List Bytes) (f : Field) where
+  -- what is asked once the name stands
+  Asked : Name → Rule
+  Asked x = do
+    refuse 31 at: x .place when: member (x .bytes) names
+    refuse 33 at: f .place when: not (isEmpty (bytesOf model Attribute·ref-attr-name (message model f)))
+    refuse 32 at: f .place when: badValue (numberOf Attribute·type (message model f)) (message model f)
+
+  Named : Name → Judged Along
+  Named x = do
+    refuse 31 at: x .place when: member (x .bytes) names
+    refuse 33 at: f .place when: not (isEmpty (bytesOf model Attribute·ref-attr-name (message model f)))
+    refuse 32 at: f .place when: badValue (numberOf Attribute·type (message model f)) (message model f)
+    v ← each (body passing) start (bodiesOf (message model f))
+    pass (record { walk = v; earlier = x .bytes ∷ names })
+
+  named : (x : Name) → silent (Named x) ≡ Asked x
+  unfolding Named Asked silent _>>=_
+  named x =
+      silent-rule 31 _ _ _
+      ∙ ap (λ (o : Rule). refuse 31 at: x .place when: member (x .bytes) names >> o)
+      (silent-rule 33 _ _ _
+      ∙ ap (λ (o : Rule). refuse 33 at: f .place when: not (isEmpty (bytesOf model Attribute·ref-attr-name (message model f))) >> o)
+      (silent-last 32 _ _ _ (ap (λ (o : Judged Walk). silent {A = Along} (o >>= λ v. pass (record { walk = v; earlier = x .bytes ∷ names }))) (bodies-pass start (bodiesOf (message model f))))))
+
+  asked : silent (attribute model passing (after names) f) ≡ (naming model 22 Attribute·name (message model f) >>= Asked)
+  unfolding attribute after message Named
+  asked = silent-bind (naming model 22 Attribute·name (message model f)) Named Asked named
+
+  module _ {n : Naming} (e : namingSays model n ≡ naming model 22 Attribute·name (message model f)) where
+    pub attribute-nameless : {r : Refusal} → n ≡ naming-answer.Refused r → silent (namingSays model n) ≡ silent (attribute model passing (after names) f)
+    unfolding namingSays silent _>>=_
+    attribute-nameless {r} k = ap silent (e ∙ sym (says (namingSays model) e k)) ∙ ap (λ (o : Judged Name). o >>= Asked) (says (namingSays model) e k) ∙ sym asked
+
+    module _ {g : Field} (k : n ≡ naming-answer.Named g) where
+      named-by : Asked (nameIn model g) ≡ silent (attribute model passing (after names) f)
+      unfolding namingSays _>>=_
+      named-by = ap (λ (o : Judged Name). o >>= Asked) (says (namingSays model) e k) ∙ sym asked
+
+      module _ {x : Bytes} (t : x ≡ text model g) {b : Bool} (i : b ≡ member x names) where
+        twice : member (text model g) names ≡ b
+        twice = ap (λ (y : Bytes). member y names) (sym t) ∙ sym i
+
+        pub attribute-twice : b ≡ true → refused 31 (g .place) ≡ silent (attribute model passing (after names) f)
+        unfolding Asked nameIn
+        attribute-twice h = sym (when-broken 31 (g .place) _ (twice ∙ h)) ∙ named-by
+
+        module _ (h : b ≡ false) {y : Bytes} (j : y ≡ bytesOf model Attribute·ref-attr-name (message model f)) where
+          unique : Asked (nameIn model g) ≡ (refuse 33 at: f .place when: not (isEmpty y) >> refuse 32 at: f .place when: badValue (numberOf Attribute·type (message model f)) (message model f))
+          unfolding Asked nameIn
+          unique = when-kept 31 (g .place) _ (twice ∙ h) ∙ ap (λ (z : Bytes). refuse 33 at: f .place when: not (isEmpty z) >> refuse 32 at: f .place when: badValue (numberOf Attribute·type (message model f)) (message model f)) (sym j)
+
+          pub attribute-refers : (length y ≡ 0 → ⊥) → refused 33 (f .place) ≡ silent (attribute model passing (after names) f)
+          attribute-refers l = sym (unique ∙ when-broken 33 (f .place) _ (ap not (empty-some y l))) ∙ named-by
+
+          module _ (l : length y ≡ 0) {v : Bool} (m : v ≡ badValue (numberOf Attribute·type (message model f)) (message model f)) where
+            plain : Asked (nameIn model g) ≡ refuse 32 at: f .place when: v
+            plain = unique ∙ when-kept 33 (f .place) _ (ap not (empty-none y l)) ∙ ap (λ (z : Bool). refuse 32 at: f .place when: z) (sym m)
+
+            pub attribute-bad : v ≡ true → refused 32 (f .place) ≡ silent (attribute model passing (after names) f)
+            attribute-bad z = sym (plain ∙ broken 32 (f .place) z) ∙ named-by
+
+            pub attribute-good : v ≡ false → pass tt ≡ silent (attribute model passing (after names) f)
+            attribute-good z = sym (plain ∙ kept 32 (f .place) z) ∙ named-by
