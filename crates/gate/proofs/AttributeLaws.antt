@@ -1,15 +1,14 @@
 -- An attribute's rules in the order of the code's tests.
-use Prim.Native.Nat.{ℕ}
 use mathlib.Core.Path.{_≡_, refl, sym, ap, _∙_}
 use mathlib.Core.Bool.{Bool, true, false, not}
 use mathlib.Core.List.{List, [], _∷_}
 use lib.ListN.{length}
-use Rattle.wire.specs.Outcome.{pass, fail, _>>=_, _>>_, each, Judged, Rule, refused, refuse_at:_when:_}
+use Rattle.wire.specs.Outcome.{pass, _>>=_, _>>_, each, Judged, Rule, refused, refuse_at:_when:_}
 use Rattle.wire.specs.declared.Refusal.{Refusal}
 use Rattle.wire.specs.declared.Field.{Field}
 use Rattle.wire.specs.Lists.{isEmpty}
 use Rattle.wire.specs.Bytes.{Bytes, member}
-use Rattle.wire.specs.Message.{Message, numberOf, text, bytesOf, message}
+use Rattle.wire.specs.Message.{numberOf, text, bytesOf, message}
 use Rattle.wire.proofs.CursorLaws.{says}
 use Rattle.wire.proofs.Refusing.{when-broken, when-kept, broken, kept}
 use Rattle.schema.specs.Numbers.{Attribute·name, Attribute·type, Attribute·ref-attr-name}
@@ -21,26 +20,8 @@ use Rattle.gate.specs.Earlier.{passing, after}
 use Rattle.gate.specs.Answers.{namingSays}
 use Rattle.gate.specs.declared.names.Naming.{Naming}
 use Rattle.gate.specs.declared.names.Naming.the-variants as naming-answer
+use Rattle.gate.proofs.Silent.{silent-rule, silent-last, silent-bind}
 use Rattle.gate.proofs.NameLaws.{empty-none, empty-some}
-
--- ---- answers of which only the refusal matters
-
-silent-rule : {A : Type 0} (n p : ℕ) (b : Bool) (o : Judged A) → silent (refuse n at: p when: b >> o) ≡ (refuse n at: p when: b >> silent o)
-unfolding silent refuse_at:_when:_ _>>_ _>>=_
-silent-rule n p true o = refl
-silent-rule n p false o = refl
-
-silent-last : {A : Type 0} (n p : ℕ) (b : Bool) (o : Judged A) → silent o ≡ pass tt → silent (refuse n at: p when: b >> o) ≡ refuse n at: p when: b
-unfolding silent refuse_at:_when:_ _>>_ _>>=_
-silent-last n p true o h = refl
-silent-last n p false o h = h
-
-silent-bind : {A B : Type 0} (o : Judged A) (k : A → Judged B) (l : A → Rule) → ((a : A) → silent (k a) ≡ l a) → silent (o >>= k) ≡ (o >>= l)
-unfolding silent _>>=_
-silent-bind (pass a) k l h = h a
-silent-bind (fail r) k l h = refl
-
--- ---- the rules
 
 bodies-pass : (w : Walk) (l : List Field) → each (body passing) w l ≡ pass w
 unfolding each body passing leaving _>>=_

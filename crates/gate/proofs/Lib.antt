@@ -1,4 +1,5 @@
 pub mod IdentifierLaws
+pub mod Silent
 pub mod RulingLaws
 pub mod TypeLaws
 pub mod NameLaws
@@ -7,6 +8,7 @@ pub mod EarlierLaws
 pub mod CarrierLaws
 pub mod AttributeLaws
 pub mod ScopeLaws
+pub mod ImportLaws
 pub mod HeaderLaws
 pub mod Rules
 pub mod Matching

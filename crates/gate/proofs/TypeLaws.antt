@@ -1,16 +1,16 @@
 -- The rules of types in the order of the code's tests.
 use Prim.Native.Nat.{ℕ, _≤_, _<_, _^_}
-use mathlib.Core.Path.{_≡_, refl, sym, ap, _∙_}
+use mathlib.Core.Path.{_≡_, sym, ap, _∙_}
 use mathlib.Core.Bool.{Bool, true, false, not, _&&_}
 use mathlib.Core.List.{[]}
 use mathlib.Core.Option.{Option, none, some}
 use lib.Dec.{leb}
 use borrow.Author.Tests.{le-leb, lt-leb}
-use Rattle.wire.specs.Outcome.{pass, each, Rule, refused, refuse_at:_when:_}
+use Rattle.wire.specs.Outcome.{pass, each, refused, refuse_at:_when:_}
 use Rattle.wire.specs.declared.Field.{Field}
 use Rattle.wire.specs.Lists.{present, within}
 use Rattle.wire.specs.Bytes.{Bytes}
-use Rattle.wire.specs.Message.{Message, allOf, firstOf, numberOf, placeOf, text, bytesOf, message}
+use Rattle.wire.specs.Message.{allOf, firstOf, numberOf, placeOf, text, bytesOf, message}
 use Rattle.wire.proofs.Refusing.{when-broken, when-kept, broken, kept}
 use Rattle.schema.specs.Numbers.{ValueInfo·type, TypeProto·tensor, TensorType·elem-type, TensorType·shape, Shape·dim, Dimension·dim-value, Dimension·dim-param}
 use Rattle.gate.specs.Identifier.{identifier}

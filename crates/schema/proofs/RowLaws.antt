@@ -2,11 +2,10 @@
 use Prim.Native.Nat.{ℕ}
 use Prim.Native.String.{String}
 use mathlib.Core.Path.{_≡_, refl, sym, ap}
-use mathlib.Core.Logic.{_⊎_, inl, inr}
 use mathlib.Core.List.{List, [], _∷_}
-use lib.Dec.{T, not-T, eqb, eqb→eq}
+use lib.Dec.{T, not-T, eqb}
 use Rattle.wire.specs.Lists.{contains}
-use Rattle.wire.proofs.Lists.{or-cases, or-left, or-right, T-false, subset, contains-subset, NoneOf, none-contained}
+use Rattle.wire.proofs.Lists.{or-left, or-right, T-false, subset, contains-subset, NoneOf, none-contained}
 use Rattle.schema.specs.declared.Kind.{Kind}
 use Rattle.schema.specs.declared.Row.{Row}
 use Rattle.schema.specs.declared.Row.the-variants.{Unknown}

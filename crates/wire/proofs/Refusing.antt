@@ -2,7 +2,7 @@
 use Prim.Native.Nat.{ℕ}
 use mathlib.Core.Path.{_≡_, ap}
 use mathlib.Core.Bool.{Bool, true, false}
-use Rattle.wire.specs.Outcome.{pass, fail, _>>_, Judged, Rule, refused, refuse_at:_when:_}
+use Rattle.wire.specs.Outcome.{pass, _>>_, Judged, refused, refuse_at:_when:_}
 
 module _ {A : Type 0} (n p : ℕ) {b : Bool} (o : Judged A) where
   pub when-broken : b ≡ true → (refuse n at: p when: b >> o) ≡ refused n p

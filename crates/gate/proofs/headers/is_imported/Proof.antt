@@ -1,6 +1,6 @@
 use mathlib.Core.Path.{ap, _∙_}
 use Rattle.wire.specs.Bytes.{member}
-use Rattle.gate.proofs.HeaderLaws.{imports-all}
+use Rattle.gate.proofs.ImportLaws.{imports-all}
 use borrow.Author.Needs.{needs}
 use Rattle.gate.proofs.headers.is_imported.Statement.{statement}
 use Rattle.gate.proofs.headers.is_imported.Tie as tie

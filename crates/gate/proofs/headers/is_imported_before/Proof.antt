@@ -1,7 +1,7 @@
 use Prim.Native.Nat.{_-_}
 use lib.ListN.{length}
 use Rattle.operators.specs.Operators.{domain}
-use Rattle.gate.proofs.HeaderLaws.{Rescan, rescan-start, rescan-end, rescan-past, rescan-here, rescan-next, import-falls}
+use Rattle.gate.proofs.ImportLaws.{Rescan, rescan-start, rescan-end, rescan-past, rescan-here, rescan-next, import-falls}
 use borrow.Author.Needs.{needs}
 use Rattle.gate.proofs.headers.is_imported_before.Statement.{statement}
 use Rattle.gate.proofs.headers.is_imported_before.Tie as tie

@@ -1,7 +1,7 @@
 use mathlib.Core.Path.{_∙_}
 use borrow.Author.Tests.{not-true, not-false}
 use Rattle.gate.specs.Answers.{rulingSays}
-use Rattle.gate.proofs.HeaderLaws.{import-twice, import-unlisted, import-kept}
+use Rattle.gate.proofs.ImportLaws.{import-twice, import-unlisted, import-kept}
 use borrow.Author.Needs.{needs}
 use Rattle.gate.proofs.headers.opset_import.Statement.{statement}
 use Rattle.gate.proofs.headers.opset_import.Tie as tie

@@ -1,7 +1,7 @@
 use Prim.Native.Nat.{_-_}
 use lib.ListN.{length}
 use Rattle.gate.specs.Answers.{rulingSays}
-use Rattle.gate.proofs.HeaderLaws.{import-falls, Importing, importing-start, importing-end, importing-stops, importing-goes}
+use Rattle.gate.proofs.ImportLaws.{import-falls, Importing, importing-start, importing-end, importing-stops, importing-goes}
 use borrow.Author.Needs.{needs}
 use Rattle.gate.proofs.headers.opset_imports.Statement.{statement}
 use Rattle.gate.proofs.headers.opset_imports.Tie as tie

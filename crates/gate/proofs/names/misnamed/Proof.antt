@@ -1,6 +1,5 @@
 use mathlib.Core.Path.{refl}
 use Rattle.gate.specs.Answers.{namingSays}
-use borrow.Author.Needs.{needs}
 use Rattle.gate.proofs.names.misnamed.Statement.{statement}
 use Rattle.gate.proofs.names.misnamed.Tie as tie
 

@@ -1,0 +1,32 @@
+-- Answers of which only the refusal matters.
+use Prim.Native.Nat.{ℕ}
+use mathlib.Core.Path.{_≡_, refl, sym, ap}
+use mathlib.Core.Bool.{Bool, true, false}
+use Rattle.wire.specs.Outcome.{pass, fail, _>>=_, _>>_, Judged, Rule, refuse_at:_when:_}
+use Rattle.wire.specs.declared.Refusal.{Refusal}
+use Rattle.wire.proofs.Passing.{fail-no-pass, passed-bind}
+use Rattle.schema.specs.Answers.{silent}
+
+pub silent-rule : {A : Type 0} (n p : ℕ) (b : Bool) (o : Judged A) → silent (refuse n at: p when: b >> o) ≡ (refuse n at: p when: b >> silent o)
+unfolding silent refuse_at:_when:_ _>>_ _>>=_
+silent-rule n p true o = refl
+silent-rule n p false o = refl
+
+pub silent-last : {A : Type 0} (n p : ℕ) (b : Bool) (o : Judged A) → silent o ≡ pass tt → silent (refuse n at: p when: b >> o) ≡ refuse n at: p when: b
+unfolding silent refuse_at:_when:_ _>>_ _>>=_
+silent-last n p true o h = refl
+silent-last n p false o h = h
+
+pub silent-bind : {A B : Type 0} (o : Judged A) (k : A → Judged B) (l : A → Rule) → ((a : A) → silent (k a) ≡ l a) → silent (o >>= k) ≡ (o >>= l)
+unfolding silent _>>=_
+silent-bind (pass a) k l h = h a
+silent-bind (fail r) k l h = refl
+
+pub silent-fails : {A : Type 0} (o : Judged A) {x : Refusal} → silent o ≡ fail x → o ≡ fail x
+unfolding silent _>>=_
+silent-fails (pass a) {x} e = absurd (fail-no-pass x tt (sym e))
+silent-fails (fail y) {x} e = let k : y ≡ x = cc in ap fail k
+
+pub silent-passes : {A : Type 0} (o : Judged A) → silent o ≡ pass tt → (a : A) × (o ≡ pass a)
+unfolding silent
+silent-passes o e = let p = passed-bind o (λ _. pass tt) tt e in (p .0, p .1)
