@@ -3,7 +3,7 @@ use Prim.Native.Nat.{ℕ, _-_, _≤_, _<_}
 use native.Mathlib.Omega.{arith}
 use mathlib.Core.Path.{_≡_, refl, sym, ap, _∙_}
 use mathlib.Core.Bool.{Bool, true, false, _||_}
-use mathlib.Core.List.{List, [], _∷_, _++_}
+use mathlib.Core.List.{List, [], _∷_, _++_, map}
 use borrow.Author.Tests.{le-leb, lt-leb}
 use Rattle.wire.specs.declared.Field.{Field}
 use Rattle.wire.specs.declared.Cursor.{Cursor}
@@ -43,51 +43,44 @@ unfolding before
 before-all lo hi [] o = refl
 before-all lo hi (f ∷ l) o = before-here hi f l (omega arith) ∙ ap (λ (m : List Field). f ∷ m) (before-all (f .next) hi l (o .4))
 
--- the search has come to the cursor `c`
-pub record Rereading (model : Bytes) (number name place : ℕ) (text : Bytes) (end start : ℕ) (c : Cursor) : Type 0 where
+-- ---- reading them again: `named` gives the name in a field, and the whole search answers `o`
+
+pub record Rereading (model : Bytes) (number end : ℕ) (named : Field → Bytes) (place : ℕ) (text : Bytes) (o : Bool) (c : Cursor) : Type 0 where
   pub ends : c .end ≡ end
-  pub rest : member text (namesIn model name (before place (allFrom model number end (c .at)))) ≡ member text (namesIn model name (before place (allFrom model number end start)))
+  pub rest : member text (map named (before place (allFrom model number end (c .at)))) ≡ o
 
-pub reread-start : (model : Bytes) (number name place : ℕ) (text : Bytes) (c : Cursor) → Rereading model number name place text (c .end) (c .at) c
-reread-start model number name place text c = record { ends = refl; rest = refl }
-
-pub reread-all : (model : Bytes) (number name place : ℕ) (text : Bytes) (m : Field) → member text (namesIn model name (before place (allFrom model number (m .next) (m .start)))) ≡ member text (namesIn model name (before place (allOf number (message model m))))
-unfolding allFrom allOf message
+-- the names in a message's fields
+pub reread-all : (model : Bytes) (number name place : ℕ) (text : Bytes) (m : Field) → member text (map (λ f. bytesOf model name (message model f)) (before place (allFrom model number (m .next) (m .start)))) ≡ member text (namesIn model name (before place (allOf number (message model m))))
+unfolding allFrom allOf message namesIn
 reread-all model number name place text m = refl
 
-module _ {model : Bytes} {number name place : ℕ} {text : Bytes} {end start : ℕ} {c : Cursor} (q : Rereading model number name place text end start c) {r : Sought} (read : soughtSays r ≡ soughtIn model number (c .end) (c .at)) where
-  pub reread-done : r ≡ sought.Missing → false ≡ member text (namesIn model name (before place (allFrom model number end start)))
-  unfolding soughtSays before namesIn member
-  reread-done e = ap (λ (l : List Field). member text (namesIn model name (before place l))) (sym (all-none model number end (c .at) (says soughtSays (rw (q .ends) at read) e))) ∙ q .rest
+module _ {model : Bytes} {number end : ℕ} {named : Field → Bytes} {place : ℕ} {text : Bytes} {o : Bool} {c : Cursor} (q : Rereading model number end named place text o c) {r : Sought} (read : soughtSays r ≡ soughtIn model number (c .end) (c .at)) where
+  pub reread-done : r ≡ sought.Missing → false ≡ o
+  unfolding soughtSays before member
+  reread-done e = ap (λ (l : List Field). member text (map named (before place l))) (sym (all-none model number end (c .at) (says soughtSays (rw (q .ends) at read) e))) ∙ q .rest
 
   module _ {f : Field} {next : Cursor} (e : r ≡ sought.Found f next) where
     went : Onward model number end (c .at) f next
     unfolding soughtSays
     went = all-some model number end (c .at) (says soughtSays (rw (q .ends) at read) e)
 
-    -- the list from the cursor on, with its first field
-    parted : member text (namesIn model name (before place (f ∷ allFrom model number end (next .at)))) ≡ member text (namesIn model name (before place (allFrom model number end start)))
-    parted = ap (λ (l : List Field). member text (namesIn model name (before place l))) (sym (went .list)) ∙ q .rest
+    pub reread-falls : end - next .at < end - c .at
+    reread-falls = let far = went .onward in let near = went .inside in omega arith
 
-    pub reread-past : place ≤ f .place → false ≡ member text (namesIn model name (before place (allFrom model number end start)))
-    unfolding namesIn member
-    reread-past h = sym (ap (λ (l : List Field). member text (namesIn model name l)) (before-past place f (allFrom model number end (next .at)) h)) ∙ parted
+    parted : {l : List Field} → before place (f ∷ allFrom model number end (next .at)) ≡ l → member text (map named l) ≡ o
+    parted k = ap (λ (m : List Field). member text (map named m)) (sym (ap (before place) (went .list) ∙ k)) ∙ q .rest
 
-    module _ (h : f .place < place) {x : Bytes} (t : x ≡ bytesOf model name (message model f)) {b : Bool} (i : b ≡ same text x) where
-      kept : member text (namesIn model name (before place (f ∷ allFrom model number end (next .at)))) ≡ (b || member text (namesIn model name (before place (allFrom model number end (next .at)))))
-      unfolding namesIn member
-      kept =
-          ap (λ (l : List Field). member text (namesIn model name l)) (before-here place f (allFrom model number end (next .at)) h)
-          ∙ ap (λ (y : Bool). y || member text (namesIn model name (before place (allFrom model number end (next .at))))) (ap (same text) (sym t) ∙ sym i)
+    pub reread-past : place ≤ f .place → false ≡ o
+    unfolding member
+    reread-past h = parted (before-past place f _ h)
 
-      pub reread-here : b ≡ true → true ≡ member text (namesIn model name (before place (allFrom model number end start)))
-      reread-here e = sym (ap (λ (y : Bool). y || member text (namesIn model name (before place (allFrom model number end (next .at))))) e) ∙ sym kept ∙ parted
+    module _ (h : f .place < place) {b : Bool} (i : b ≡ same text (named f)) where
+      here : (b || member text (map named (before place (allFrom model number end (next .at))))) ≡ o
+      unfolding member
+      here = ap (λ (y : Bool). y || member text (map named (before place (allFrom model number end (next .at))))) i ∙ parted (before-here place f _ h)
 
-      pub reread-next : b ≡ false → Rereading model number name place text end start next
-      reread-next e = record {
-        ends = went .ends;
-        rest = sym (ap (λ (y : Bool). y || member text (namesIn model name (before place (allFrom model number end (next .at))))) e) ∙ sym kept ∙ parted;
-      }
+      pub reread-here : b ≡ true → true ≡ o
+      reread-here k = rw k at here
 
-      pub reread-falls : end - next .at < end - c .at
-      reread-falls = let far = went .onward in let near = went .inside in omega arith
+      pub reread-next : b ≡ false → Rereading model number end named place text o next
+      reread-next k = record { ends = went .ends; rest = rw k at here }

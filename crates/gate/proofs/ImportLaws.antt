@@ -1,5 +1,5 @@
 -- The imports of a model, one after the other: those so far, and the loop over them.
-use Prim.Native.Nat.{ℕ, _-_, _≤_, _<_}
+use Prim.Native.Nat.{ℕ, _-_, _<_}
 use native.Mathlib.Omega.{arith}
 use mathlib.Core.Path.{_≡_, refl, sym, ap, subst, _∙_}
 use mathlib.Core.Bool.{Bool, true, false, not, _||_}
@@ -26,7 +26,7 @@ use Rattle.schema.specs.Answers.{silent}
 use Rattle.gate.specs.Header.{opsetImport}
 use Rattle.gate.specs.Earlier.{before}
 use Rattle.gate.specs.Imports.{importOf, importsIn, importsBefore}
-use Rattle.gate.proofs.EarlierLaws.{before-past, before-here, before-split, before-all}
+use Rattle.gate.proofs.EarlierLaws.{before-split, before-all, Rereading}
 use Rattle.gate.specs.Answers.{rulingSays}
 use Rattle.gate.specs.declared.Ruling.{Ruling}
 use Rattle.gate.specs.declared.Ruling.the-variants as ruling
@@ -71,42 +71,15 @@ module _ (model : Bytes) (c : Cursor) (ends : c .end ≡ length model) {a : Soug
     pub import-falls : length model - next .at < length model - c .at
     import-falls = let far = gone .onward in let near = gone .inside in omega arith
 
--- ---- reading them again: whether x is imported before a place, those from the cursor on decide
+-- ---- reading them again: whether x is imported before a place
 
-pub record Rescan (model : Bytes) (place : ℕ) (x : Bytes) (c : Cursor) : Type 0 where
-  pub ends : c .end ≡ length model
-  pub rest : member x (map (importOf model) (before place (From model (c .at)))) ≡ member x (importsBefore model place)
-
-pub rescan-start : (model : Bytes) (place : ℕ) (x : Bytes) → Rescan model place x (record { at = 0; end = length model })
+pub imports-again : (model : Bytes) (place : ℕ) (x : Bytes) → Rereading model Model·opset-import (length model) (importOf model) place x (member x (importsBefore model place)) (record { at = 0; end = length model })
 unfolding importsBefore
-rescan-start model place x = record { ends = refl; rest = ap (λ (l : List Field). member x (map (importOf model) (before place l))) (sym (from-start model)) }
+imports-again model place x = record { ends = refl; rest = ap (λ (l : List Field). member x (map (importOf model) (before place l))) (sym (from-start model)) }
 
-module _ {model : Bytes} {place : ℕ} {x : Bytes} {c : Cursor} (q : Rescan model place x c) {a : Sought} (read : soughtSays a ≡ soughtIn model Model·opset-import (c .end) (c .at)) where
-  pub rescan-end : a ≡ sought.Missing → false ≡ member x (importsBefore model place)
-  unfolding member before
-  rescan-end e = ap (λ (l : List Field). member x (map (importOf model) (before place l))) (sym (none-left model c (q .ends) read e)) ∙ q .rest
-
-  module _ {f : Field} {next : Cursor} (e : a ≡ sought.Found f next) where
-    by : {l : List Field} → before place (f ∷ From model (next .at)) ≡ l → member x (map (importOf model) l) ≡ member x (importsBefore model place)
-    by k = ap (λ (m : List Field). member x (map (importOf model) m)) (sym (ap (before place) (gone model c (q .ends) read e .list) ∙ k)) ∙ q .rest
-
-    pub rescan-past : place ≤ f .place → false ≡ member x (importsBefore model place)
-    unfolding member
-    rescan-past h = by (before-past place f _ h)
-
-    -- y is the domain that the import names, t whether it is x
-    module _ (h : f .place < place) {y : Bytes} (ey : y ≡ bytesOf model OperatorSetId·domain (message model f)) {t : Bool} (et : t ≡ same x (domain y)) where
-      named : (t || member x (map (importOf model) (before place (From model (next .at))))) ≡ member x (importsBefore model place)
-      unfolding member importOf
-      named =
-          ap (λ (u : Bool). u || member x (map (importOf model) (before place (From model (next .at))))) (et ∙ ap (λ (z : Bytes). same x (domain z)) ey)
-          ∙ by (before-here place f _ h)
-
-      pub rescan-here : t ≡ true → true ≡ member x (importsBefore model place)
-      rescan-here k = rw k at named
-
-      pub rescan-next : t ≡ false → Rescan model place x next
-      rescan-next k = record { ends = gone model c (q .ends) read e .ends; rest = rw k at named }
+pub same-import : (model x : Bytes) (f : Field) {y : Bytes} → y ≡ bytesOf model OperatorSetId·domain (message model f) → {b : Bool} → b ≡ same x (domain y) → b ≡ same x (importOf model f)
+unfolding importOf
+same-import model x f e k = k ∙ ap (λ (z : Bytes). same x (domain z)) e
 
 -- ---- one import: y is the domain that it names, s whether that is imported
 

@@ -1,34 +1,38 @@
 use Prim.Native.Nat.{_-_}
 use lib.ListN.{length}
+use Rattle.wire.specs.Bytes.{member}
 use Rattle.operators.specs.Operators.{domain}
-use Rattle.gate.proofs.ImportLaws.{Rescan, rescan-start, rescan-end, rescan-past, rescan-here, rescan-next, import-falls}
+use Rattle.schema.specs.Numbers.{Model·opset-import}
+use Rattle.gate.specs.Imports.{importOf, importsBefore}
+use Rattle.gate.proofs.EarlierLaws.{Rereading, reread-done, reread-past, reread-here, reread-next, reread-falls}
+use Rattle.gate.proofs.ImportLaws.{imports-again, same-import}
 use borrow.Author.Needs.{needs}
 use Rattle.gate.proofs.headers.is_imported_before.Statement.{statement}
 use Rattle.gate.proofs.headers.is_imported_before.Tie as tie
 
 abbrev Inv-loop : tie.InvT-loop
-Inv-loop model place d end c₀ c = Rescan model place (domain d) c
+Inv-loop model place d end c₀ c = Rereading model Model·opset-import (length model) (importOf model) place (domain d) (member (domain d) (importsBefore model place)) c
 
 abbrev μ-loop : tie.MeasureT-loop
 μ-loop model place d end c₀ c = length model - c .at
 
 loop-holds : tie.Need-loop-holds Inv-loop μ-loop
-loop-holds c = rescan-start _ _ _
+loop-holds c = imports-again _ _ _
 
 returns : tie.Need-returns Inv-loop μ-loop
-returns c = rescan-end (c .before .before .before .loop .inv) (c .before .before .next-of .ensures) (c .enum-told .given .1)
+returns c = reread-done (c .before .before .before .loop .inv) (c .before .before .next-of .ensures) (c .enum-told .given .1)
 
 returns-2 : tie.Need-returns-2 Inv-loop μ-loop
-returns-2 c = rescan-past (c .before .before .before .before .before .before .loop .inv) (c .before .before .before .before .before .next-of .ensures) (c .before .before .before .sought .given .1) (c .if1 .taken)
+returns-2 c = reread-past (c .before .before .before .before .before .before .loop .inv) (c .before .before .before .before .before .next-of .ensures) (c .before .before .before .sought .given .1) (c .if1 .taken)
 
 returns-3 : tie.Need-returns-3 Inv-loop μ-loop
-returns-3 c = rescan-here (c .before .before .before .before .before .before .before .before .before .loop .inv) (c .before .before .before .before .before .before .before .before .next-of .ensures) (c .before .before .before .before .before .before .sought .given .1) (c .before .before .before .if1 .left) (c .before .before .bytes-of .ensures) (c .before .same-domain .ensures) (c .if2 .taken)
+returns-3 c = reread-here (c .before .before .before .before .before .before .before .before .before .loop .inv) (c .before .before .before .before .before .before .before .before .next-of .ensures) (c .before .before .before .before .before .before .sought .given .1) (c .before .before .before .if1 .left) (same-import _ _ _ (c .before .before .bytes-of .ensures) (c .before .same-domain .ensures)) (c .if2 .taken)
 
 loop-less : tie.Need-loop-less Inv-loop μ-loop
-loop-less c = import-falls _ _ (c .before .before .before .before .before .before .before .before .before .loop .inv .ends) (c .before .before .before .before .before .before .before .before .next-of .ensures) (c .before .before .before .before .before .before .sought .given .1)
+loop-less c = reread-falls (c .before .before .before .before .before .before .before .before .before .loop .inv) (c .before .before .before .before .before .before .before .before .next-of .ensures) (c .before .before .before .before .before .before .sought .given .1)
 
 loop-again : tie.Need-loop-again Inv-loop μ-loop
-loop-again c = rescan-next (c .before .before .before .before .before .before .before .before .before .loop .inv) (c .before .before .before .before .before .before .before .before .next-of .ensures) (c .before .before .before .before .before .before .sought .given .1) (c .before .before .before .if1 .left) (c .before .before .bytes-of .ensures) (c .before .same-domain .ensures) (c .if2 .left)
+loop-again c = reread-next (c .before .before .before .before .before .before .before .before .before .loop .inv) (c .before .before .before .before .before .before .before .before .next-of .ensures) (c .before .before .before .before .before .before .sought .given .1) (c .before .before .before .if1 .left) (same-import _ _ _ (c .before .before .bytes-of .ensures) (c .before .same-domain .ensures)) (c .if2 .left)
 
 pub is-imported-before-spec : {M : Type 1} → statement M
 is-imported-before-spec =
