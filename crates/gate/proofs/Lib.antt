@@ -7,6 +7,7 @@ pub mod ShownLaws
 pub mod EarlierLaws
 pub mod CarrierLaws
 pub mod AttributeLaws
+pub mod NodeLaws
 pub mod ScopeLaws
 pub mod ImportLaws
 pub mod HeaderLaws

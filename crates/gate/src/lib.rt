@@ -5,6 +5,7 @@ mod earlier;
 mod headers;
 mod identifiers;
 mod names;
+mod nodes;
 mod numbers;
 mod rulings;
 mod scopes;
@@ -43,6 +44,8 @@ impl Ruling {
     pub const NO_TENSOR_TYPE: u8 = 24;
 
     pub const BAD_ELEM_TYPE: u8 = 25;
+
+    pub const NODE_NAME_TWICE: u8 = 29;
 
     pub const INPUT_NOT_VISIBLE: u8 = 30;
 

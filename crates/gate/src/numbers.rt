@@ -11,7 +11,11 @@ pub const OPERATOR_SET_ID_DOMAIN: u64 = 1;
 
 pub const OPERATOR_SET_ID_VERSION: u64 = 2;
 
+pub const GRAPH_NODE: u64 = 1;
+
 pub const NODE_INPUT: u64 = 1;
+
+pub const NODE_NAME: u64 = 3;
 
 pub const NODE_ATTRIBUTE: u64 = 5;
 

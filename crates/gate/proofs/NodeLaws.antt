@@ -1,0 +1,64 @@
+-- A node's name in the order of the code's tests.
+use Prim.Native.Nat.{ℕ}
+use mathlib.Core.Path.{_≡_, refl, sym, ap, _∙_}
+use mathlib.Core.Bool.{Bool, true, false, not}
+use mathlib.Core.List.{List, [], _∷_}
+use mathlib.Core.Option.{Option, none, some}
+use lib.ListN.{length}
+use Rattle.wire.specs.Outcome.{pass, _>>=_, _>>_, Judged, Rule, refused, refuse_at:_when:_}
+use Rattle.wire.specs.declared.Field.{Field}
+use Rattle.wire.specs.Lists.{isEmpty}
+use Rattle.wire.specs.Bytes.{Bytes, member}
+use Rattle.wire.specs.Message.{firstOf, placeOf, text, bytesOf, message}
+use Rattle.wire.proofs.Refusing.{when-broken, when-kept, broken, kept}
+use Rattle.schema.specs.Numbers.{Node·name}
+use Rattle.schema.specs.Answers.{silent}
+use Rattle.gate.specs.Identifier.{identifier}
+use Rattle.gate.specs.Node.{nodeName}
+use Rattle.gate.proofs.NameLaws.{empty-none, empty-some}
+use Rattle.gate.proofs.Silent.{silent-rule, silent-last}
+
+module _ (model : Bytes) (earlier : List Bytes) (m : Field) where
+  -- the rule on a name and its place
+  Ruled : Bytes → ℕ → Judged (List Bytes)
+  Ruled x p = elim (isEmpty x) [ true ↦ pass earlier | false ↦ (refuse 21 at: p when: not (identifier x) >> (refuse 29 at: p when: member x earlier >> pass (x ∷ earlier))) ]
+
+  ruled : {o : Option Field} → o ≡ firstOf Node·name (message model m) → silent (Ruled (elim o [ none ↦ [] | some f ↦ text model f ]) (elim o [ none ↦ m .place | some f ↦ f .place ])) ≡ silent (nodeName model earlier (message model m))
+  unfolding nodeName bytesOf placeOf message Ruled
+  ruled k = ap (λ (o : Option Field). silent (Ruled (elim o [ none ↦ [] | some f ↦ text model f ]) (elim o [ none ↦ m .place | some f ↦ f .place ]))) k
+
+  pub node-nameless : none ≡ firstOf Node·name (message model m) → pass tt ≡ silent (nodeName model earlier (message model m))
+  unfolding Ruled isEmpty silent _>>=_
+  node-nameless k = ruled k
+
+  module _ {f : Field} (k : some f ≡ firstOf Node·name (message model m)) {x : Bytes} (t : x ≡ text model f) where
+    by-name : silent (Ruled x (f .place)) ≡ silent (nodeName model earlier (message model m))
+    by-name = ap (λ (y : Bytes). silent (Ruled y (f .place))) t ∙ ruled k
+
+    by-length : {b : Bool} → isEmpty x ≡ b → silent {A = List Bytes} (elim b [ true ↦ pass earlier | false ↦ (refuse 21 at: f .place when: not (identifier x) >> (refuse 29 at: f .place when: member x earlier >> pass (x ∷ earlier))) ]) ≡ silent (nodeName model earlier (message model m))
+    unfolding Ruled
+    by-length e = ap (λ (b : Bool). silent {A = List Bytes} (elim b [ true ↦ pass earlier | false ↦ (refuse 21 at: f .place when: not (identifier x) >> (refuse 29 at: f .place when: member x earlier >> pass (x ∷ earlier))) ])) (sym e) ∙ by-name
+
+    pub node-unnamed : length x ≡ 0 → pass tt ≡ silent (nodeName model earlier (message model m))
+    unfolding silent _>>=_
+    node-unnamed h = by-length (empty-none x h)
+
+    module _ (h : length x ≡ 0 → ⊥) {b : Bool} (i : b ≡ identifier x) where
+      tested : (refuse 21 at: f .place when: not (identifier x) >> refuse 29 at: f .place when: member x earlier) ≡ silent (nodeName model earlier (message model m))
+      unfolding silent _>>=_
+      tested =
+          sym (silent-rule 21 _ _ _ ∙ ap (λ (o : Rule). refuse 21 at: f .place when: not (identifier x) >> o) (silent-last 29 _ _ (pass (x ∷ earlier)) refl))
+          ∙ by-length (empty-some x h)
+
+      pub node-misnamed : b ≡ false → refused 21 (f .place) ≡ silent (nodeName model earlier (message model m))
+      node-misnamed e = sym (when-broken 21 (f .place) _ (ap not (sym i ∙ e))) ∙ tested
+
+      module _ (e : b ≡ true) {v : Bool} (j : v ≡ member x earlier) where
+        new : refuse 29 at: f .place when: v ≡ silent (nodeName model earlier (message model m))
+        new = ap (λ (y : Bool). refuse 29 at: f .place when: y) j ∙ sym (when-kept 21 (f .place) _ (ap not (sym i ∙ e))) ∙ tested
+
+        pub node-twice : v ≡ true → refused 29 (f .place) ≡ silent (nodeName model earlier (message model m))
+        node-twice u = sym (broken 29 (f .place) u) ∙ new
+
+        pub node-named : v ≡ false → pass tt ≡ silent (nodeName model earlier (message model m))
+        node-named u = sym (kept 29 (f .place) u) ∙ new
