@@ -6,6 +6,8 @@ pub mod ShownLaws
 pub mod EarlierLaws
 pub mod CarrierLaws
 pub mod ScopeLaws
+pub mod StepLaws
+pub mod OutputLaws
 pub mod HeaderLaws
 pub mod Rules
 pub mod Matching

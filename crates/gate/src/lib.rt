@@ -5,6 +5,7 @@ mod headers;
 mod identifiers;
 mod names;
 mod numbers;
+mod outputs;
 mod rulings;
 mod scopes;
 mod shown;

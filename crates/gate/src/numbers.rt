@@ -13,6 +13,8 @@ pub const OPERATOR_SET_ID_VERSION: u64 = 2;
 
 pub const NODE_INPUT: u64 = 1;
 
+pub const NODE_OUTPUT: u64 = 2;
+
 pub const ATTRIBUTE_TYPE: u64 = 20;
 
 pub const VALUE_INFO_TYPE: u64 = 2;
