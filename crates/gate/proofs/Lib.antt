@@ -8,6 +8,7 @@ pub mod CarrierLaws
 pub mod ScopeLaws
 pub mod StepLaws
 pub mod OutputLaws
+pub mod InputLaws
 pub mod HeaderLaws
 pub mod Rules
 pub mod Matching

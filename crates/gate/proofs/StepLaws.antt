@@ -13,6 +13,8 @@ use Rattle.wire.specs.declared.Field.{Field}
 use Rattle.wire.specs.declared.Cursor.{Cursor}
 use Rattle.wire.specs.declared.Sought.{Sought}
 use Rattle.wire.specs.declared.Sought.the-variants as sought
+use Rattle.wire.proofs.Passing.{passed-tells}
+use Rattle.wire.proofs.Reading.{Fits, AtTag, field-tells}
 use Rattle.wire.proofs.CursorLaws.{says}
 use Rattle.wire.proofs.Along.{Along, along-start, along-done, along-fails, along-goes, along-falls, along-read, along-placed}
 use Rattle.gate.specs.Names.{nameIn}
@@ -46,6 +48,9 @@ module _ {model : Bytes} {number end : ℕ} {rule : Adder} {o : Judged Walk} {fi
     -- the cells can hold the field's place, and find its name there
     pub adding-placed : (most : ℕ) → length model < most → end ≤ length model → f .place < most
     adding-placed most h k = let l = along-placed (g .along) read e in omega arith
+
+    pub adding-inside : f .next ≤ end
+    adding-inside = passed-tells (Fits (f .place) end) (AtTag (f .place)) (field model end (f .place)) f (field-tells model end (f .place)) (along-read (g .along) read e) .3
 
     pub adding-named : end ≤ length model → nameAt model (f .place) ≡ nameIn model f
     adding-named k = name-again model end (f .place) f k (along-read (g .along) read e) refl

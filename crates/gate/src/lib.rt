@@ -3,6 +3,7 @@ mod carriers;
 mod earlier;
 mod headers;
 mod identifiers;
+mod inputs;
 mod names;
 mod numbers;
 mod outputs;
@@ -35,6 +36,8 @@ impl Ruling {
     pub const FUNCTIONS_PRESENT: u8 = 15;
 
     pub const NOT_IDENTIFIER: u8 = 21;
+
+    pub const NAME_EMPTY: u8 = 22;
 
     pub const ALREADY_VISIBLE: u8 = 23;
 

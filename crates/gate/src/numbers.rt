@@ -11,11 +11,15 @@ pub const OPERATOR_SET_ID_DOMAIN: u64 = 1;
 
 pub const OPERATOR_SET_ID_VERSION: u64 = 2;
 
+pub const GRAPH_INPUT: u64 = 11;
+
 pub const NODE_INPUT: u64 = 1;
 
 pub const NODE_OUTPUT: u64 = 2;
 
 pub const ATTRIBUTE_TYPE: u64 = 20;
+
+pub const VALUE_INFO_NAME: u64 = 1;
 
 pub const VALUE_INFO_TYPE: u64 = 2;
 
