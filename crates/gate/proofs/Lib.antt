@@ -10,6 +10,9 @@ pub mod AttributeLaws
 pub mod NodeLaws
 pub mod ScopeLaws
 pub mod ImportLaws
+pub mod StepLaws
+pub mod OutputLaws
+pub mod InputLaws
 pub mod HeaderLaws
 pub mod Rules
 pub mod Matching

@@ -1,5 +1,5 @@
 -- Names in the order of the code's tests.
-use Prim.Native.Nat.{ℕ}
+use Prim.Native.Nat.{ℕ, _≤_, _<_}
 use native.Mathlib.Omega.{arith}
 use mathlib.Core.Path.{_≡_, refl, sym, ap, _∙_}
 use mathlib.Core.Bool.{Bool, true, false, not}
@@ -12,6 +12,8 @@ use Rattle.wire.specs.declared.Field.{Field}
 use Rattle.wire.specs.Lists.{isEmpty}
 use Rattle.wire.specs.Bytes.{Bytes}
 use Rattle.wire.specs.Message.{firstOf, placeOf, text, bytesOf, message}
+use Rattle.wire.proofs.Passing.{fail-no-pass, pass-same, passed-seq}
+use Rattle.wire.proofs.MessageLaws.{first-read, first-placed}
 use Rattle.wire.proofs.Refusing.{when-broken, when-kept, broken, kept}
 use Rattle.schema.specs.Answers.{silent}
 use Rattle.gate.specs.Identifier.{identifier}
@@ -21,6 +23,8 @@ use Rattle.gate.specs.Node.{nodeInput}
 use Rattle.gate.specs.Answers.{namingSays}
 use Rattle.gate.specs.declared.names.Naming.{Naming}
 use Rattle.gate.specs.declared.names.Naming.the-variants as naming-answer
+use Rattle.gate.specs.Scope.{nameAt}
+use Rattle.gate.proofs.ScopeLaws.{name-again}
 
 pub empty-none : (l : Bytes) → length l ≡ 0 → isEmpty l ≡ true
 unfolding isEmpty
@@ -70,6 +74,30 @@ module _ {n : Naming} (model : Bytes) where
   pub misnaming-named : {f : Field} → n ≡ naming-answer.Named f → pass tt ≡ silent (namingSays model n)
   unfolding namingSays silent _>>=_
   misnaming-named k = ap (λ (m : Naming). silent (namingSays model m)) (sym k)
+
+-- a name that may stand was read where it lies
+module _ (model : Bytes) (empty number : ℕ) (m : Field) {x : Name} (k : pass x ≡ naming model empty number (message model m)) where
+  name-field : (g : Field) × (some g ≡ firstOf number (message model m)) × (nameIn model g ≡ x)
+  unfolding Rest nameIn
+  name-field = go (firstOf number (message model m)) refl
+    where
+      go : (o : Option Field) → o ≡ firstOf number (message model m) → (g : Field) × (some g ≡ firstOf number (message model m)) × (nameIn model g ≡ x)
+      go none e = absurd (fail-no-pass _ _ (name-absent model empty number m e ∙ sym k))
+      go (some g) e = (g, e, pass-same _ _ (passed-seq _ _ _ (passed-seq _ _ _ (sym (rest model empty number m e) ∙ sym k) .1) .1))
+
+  pub name-there : m .next ≤ length model → nameAt model (x .place) ≡ x
+  unfolding nameIn
+  name-there h =
+      ap (λ (y : Name). nameAt model (y .place)) (sym (name-field .2))
+      ∙ name-again model (m .next) (name-field .0 .place) (name-field .0) h (first-read model number m (name-field .1)) refl
+      ∙ name-field .2
+
+  pub name-placed : x .place < m .next
+  unfolding nameIn
+  name-placed =
+      let e : name-field .0 .place ≡ x .place = ap (λ (y : Name). y .place) (name-field .2) in
+      let h = first-placed model number m (name-field .1) in
+      omega arith
 
 -- an input of a node
 module _ (model : Bytes) (scope : List Name) (f : Field) {x : Bytes} (t : x ≡ text model f) where

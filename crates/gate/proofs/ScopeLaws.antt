@@ -5,12 +5,12 @@ use native.Mathlib.Numerals.{add-one}
 use mathlib.Core.Path.{_≡_, refl, sym, ap, _∙_}
 use mathlib.Core.Bool.{Bool, true, false, _||_}
 use mathlib.Core.List.{List, _∷_, _++_, append-nil}
-use lib.ListN.{length, take, drop, getD, set, replicate, length-append, length-replicate, length-drop, drop-of-length-le}
-use lib.Seq.{getD-take, getD-set-same, getD-set-other}
+use lib.ListN.{length, take, drop, getD, set, replicate, length-append, length-replicate, length-drop, length-set, drop-of-length-le}
+use lib.Seq.{take-take, take-set-le, getD-take, getD-set-same, getD-set-other}
 use lib.Dec.{leb}
 use borrow.Author.Fill.{fill-more}
 use borrow.Author.Tests.{le-leb, lt-leb}
-use Rattle.wire.specs.Outcome.{pass, _>>_, Judged, refuse_at:_when:_}
+use Rattle.wire.specs.Outcome.{pass, _>>_, Judged, refused, refuse_at:_when:_}
 use Rattle.wire.specs.Bytes.{Bytes, part, same}
 use Rattle.wire.specs.Wire.{field}
 use Rattle.wire.specs.Message.{text}
@@ -25,8 +25,10 @@ use Rattle.wire.proofs.Again.{field-again}
 use Rattle.gate.specs.Names.{Name, nameIn}
 use Rattle.gate.specs.Walk.{Walk, withName, visible, define}
 use Rattle.gate.specs.Verdict.{fills}
-use Rattle.gate.specs.Scope.{nameAt, scopeIn, definedSays}
-use Rattle.gate.specs.declared.scopes.Defined.the-variants as defined
+use Rattle.gate.specs.Scope.{nameAt, scopeIn, walkIn, stepSays, grows, Keeps}
+use Rattle.gate.specs.declared.scopes.Progress.{Progress}
+use Rattle.gate.specs.declared.scopes.Step.{Step}
+use Rattle.gate.specs.declared.scopes.Step.the-variants as step
 
 -- ---- clearing: the first `i` cells are cleared
 
@@ -110,39 +112,63 @@ module _ {model : Bytes} {cells : List ℕ} {used : ℕ} {name : Bytes} {i : ℕ
     pub search-next : t ≡ false → Searching model cells used name (i - 1)
     search-next e = record { rest = rw e at search-by }
 
--- ---- a new name: x are its bytes, t the answer of the search for them, w a walk with the scope that the cells hold
+-- ---- a new name: x are its bytes, t the answer of the search for them
 
-module _ (model : Bytes) (cells : List ℕ) (used place : ℕ) (x : Bytes) (ex : x ≡ nameAt model place .bytes) (t : Bool) (et : t ≡ visible x (scopeIn model cells used)) (w : Walk) (ew : w .scope ≡ scopeIn model cells used) where
+module _ (model : Bytes) (cells : List ℕ) (p : Progress) (place : ℕ) (x : Bytes) (ex : x ≡ nameAt model place .bytes) (t : Bool) (et : t ≡ visible x (scopeIn model cells (p .used))) where
   abbrev Defining : Judged Walk
-  Defining = define (fills (length cells)) w (nameAt model place)
+  Defining = define (fills (length cells)) (walkIn model cells p) (nameAt model place)
 
-  long : length (w .scope) ≡ used
-  long = ap length ew ∙ scope-length model cells used
+  abbrev New : Walk
+  New = withName (walkIn model cells p) (nameAt model place)
 
-  define-by : Defining ≡ (refuse 23 at: place when: t >> (refuse 40 at: place when: leb (length cells) used >> pass (withName w (nameAt model place))))
-  unfolding define fills nameAt
+  define-by : Defining ≡ (refuse 23 at: place when: t >> (refuse 40 at: place when: leb (length cells) (p .used) >> pass New))
+  unfolding define fills nameAt walkIn
   define-by =
-      ap (λ (u : Bool). refuse 23 at: place when: u >> (refuse 40 at: place when: leb (length cells) (length (w .scope)) >> pass (withName w (nameAt model place)))) (ap (visible (nameAt model place .bytes)) ew ∙ ap (λ (y : Bytes). visible y (scopeIn model cells used)) (sym ex) ∙ sym et)
-      ∙ ap (λ (n : ℕ). refuse 23 at: place when: t >> (refuse 40 at: place when: leb (length cells) n >> pass (withName w (nameAt model place)))) long
+      ap (λ (u : Bool). refuse 23 at: place when: u >> (refuse 40 at: place when: leb (length cells) (length (scopeIn model cells (p .used))) >> pass New)) (ap (λ (y : Bytes). visible y (scopeIn model cells (p .used))) (sym ex) ∙ sym et)
+      ∙ ap (λ (n : ℕ). refuse 23 at: place when: t >> (refuse 40 at: place when: leb (length cells) n >> pass New)) (scope-length model cells (p .used))
 
-  pub define-twice : t ≡ true → definedSays model cells w (defined.Refused (record { number = 23; place = place })) ≡ Defining
-  unfolding definedSays _>>_ refuse_at:_when:_
+  pub define-twice : t ≡ true → refused 23 place ≡ Defining
+  unfolding _>>_ refuse_at:_when:_
   define-twice e = sym (rw e at define-by)
 
   module _ (e : t ≡ false) where
-    pub define-full : length cells ≤ used → definedSays model cells w (defined.Refused (record { number = 40; place = place })) ≡ Defining
-    unfolding definedSays _>>_ refuse_at:_when:_
+    pub define-full : length cells ≤ p .used → refused 40 place ≡ Defining
+    unfolding _>>_ refuse_at:_when:_
     define-full h = sym (rw (e, le-leb _ _ h) at define-by)
 
-    pushed : used < length cells → definedSays model (set cells used place) w (defined.Used (used + 1)) ≡ pass (withName w (nameAt model place))
-    unfolding definedSays withName
-    pushed h =
-        ap (λ (s : List Name). pass (record { scope = s; nodes = w .nodes; most = max (w .most) (used + 1) })) (scope-push model cells used place h ∙ ap (λ (s : List Name). nameAt model place ∷ s) (sym ew))
-        ∙ ap (λ (n : ℕ). pass (record { scope = nameAt model place ∷ w .scope; nodes = w .nodes; most = max (w .most) (n + 1) })) (sym long)
+    module _ (m : ℕ) (em : m ≡ max (p .most) (p .used + 1)) (h : p .used < length cells) where
+      pushed : stepSays model (set cells (p .used) place) (step.Went (record { used = p .used + 1; nodes = p .nodes; most = m })) ≡ pass New
+      unfolding stepSays withName walkIn
+      pushed =
+          ap (λ (s : List Name). pass (record { scope = s; nodes = p .nodes; most = m })) (scope-push model cells (p .used) place h)
+          ∙ ap (λ (n : ℕ). pass (record { scope = nameAt model place ∷ scopeIn model cells (p .used); nodes = p .nodes; most = n })) (em ∙ ap (λ (n : ℕ). max (p .most) (n + 1)) (sym (scope-length model cells (p .used))))
 
-    pub define-new : used < length cells → definedSays model (set cells used place) w (defined.Used (used + 1)) ≡ Defining
-    unfolding _>>_ refuse_at:_when:_
-    define-new h = pushed h ∙ sym (rw (e, lt-leb _ _ h) at define-by)
+      pub define-new : stepSays model (set cells (p .used) place) (step.Went (record { used = p .used + 1; nodes = p .nodes; most = m })) ≡ Defining
+      unfolding _>>_ refuse_at:_when:_
+      define-new = pushed ∙ sym (rw (e, lt-leb _ _ h) at define-by)
+
+-- ---- what stays of the cells
+
+pub keeps-all : (used : ℕ) (cells : List ℕ) → Keeps used cells cells
+keeps-all used cells = record { size = refl; below = refl }
+
+pub keeps-set : (used place : ℕ) (cells : List ℕ) → Keeps used cells (set cells used place)
+keeps-set used place cells = record { size = length-set cells used place; below = take-set-le used cells used place (omega arith) }
+
+-- where less is in use, less need stay
+pub keeps-fewer : {used n : ℕ} {a b : List ℕ} → n ≤ used → Keeps used a b → Keeps n a b
+keeps-fewer {used} {n} {a} {b} h k = record {
+  size = k .size;
+  below = sym (take-take n used b h) ∙ ap (take n) (k .below) ∙ take-take n used a h;
+}
+
+pub keeps-then : {used : ℕ} {a b d : List ℕ} → Keeps used a b → Keeps used b d → Keeps used a d
+keeps-then k l = record { size = l .size ∙ k .size; below = l .below ∙ k .below }
+
+pub grown-on : (p q : Progress) (r : Step) → p .used ≤ q .used → grows q r → grows p r
+unfolding grows
+grown-on p q (step.Went s) h k = omega arith
+grown-on p q (step.Refused x) h k = tt
 
 pub name-again : (model : Bytes) (end pos : ℕ) (f : Field) → end ≤ length model → field model end pos ≡ pass f → f .place ≡ pos → nameAt model pos ≡ nameIn model f
 unfolding nameAt nameIn

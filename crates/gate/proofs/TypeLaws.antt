@@ -6,7 +6,7 @@ use mathlib.Core.List.{[]}
 use mathlib.Core.Option.{Option, none, some}
 use lib.Dec.{leb}
 use borrow.Author.Tests.{le-leb, lt-leb}
-use Rattle.wire.specs.Outcome.{pass, each, refused, refuse_at:_when:_}
+use Rattle.wire.specs.Outcome.{pass, each, refused, refuse_at:_when:_, Rule}
 use Rattle.wire.specs.declared.Field.{Field}
 use Rattle.wire.specs.Lists.{present, within}
 use Rattle.wire.specs.Bytes.{Bytes}
@@ -14,6 +14,7 @@ use Rattle.wire.specs.Message.{allOf, firstOf, numberOf, placeOf, text, bytesOf
 use Rattle.wire.proofs.Refusing.{when-broken, when-kept, broken, kept}
 use Rattle.schema.specs.Numbers.{ValueInfo·type, TypeProto·tensor, TensorType·elem-type, TensorType·shape, Shape·dim, Dimension·dim-value, Dimension·dim-param}
 use Rattle.gate.specs.Identifier.{identifier}
+use Rattle.gate.specs.Walk.{Context, inMain}
 use Rattle.gate.specs.Types.{negative, isElement, dim, tensorType, declaredType}
 
 pub element-below : (n : ℕ) → n < 1 → false ≡ isElement n
@@ -91,3 +92,13 @@ module _ (model : Bytes) (f : Field) where
 
     pub tensor-some : {h : Field} → some h ≡ firstOf TypeProto·tensor (message model g) → tensorType model (message model h) ≡ declaredType model (message model f)
     tensor-some l = sym (within-type l)
+
+-- a rule of the main graph alone
+module _ (k : Context) {main : Bool} (e : k .main ≡ main) (rule : Rule) where
+  pub main-does : main ≡ true → rule ≡ inMain k rule
+  unfolding inMain
+  main-does h = ap (λ (b : Bool). elim b [ true ↦ rule | false ↦ pass tt ]) (sym (e ∙ h))
+
+  pub main-not : main ≡ false → pass tt ≡ inMain k rule
+  unfolding inMain
+  main-not h = ap (λ (b : Bool). elim b [ true ↦ rule | false ↦ pass tt ]) (sym (e ∙ h))

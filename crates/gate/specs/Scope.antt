@@ -1,16 +1,18 @@
 -- How lent cells hold what is visible: a cell is the place of the field that holds a name. No rule speaks of this; contracts of
 -- the code do.
-use Prim.Native.Nat.{ℕ, zero, suc, max}
+use Prim.Native.Nat.{ℕ, zero, suc, _≤_}
+use mathlib.Core.Path.{_≡_}
 use mathlib.Core.List.{List, [], _∷_}
-use lib.ListN.{length, getD, set}
+use lib.ListN.{length, take, getD}
 use Rattle.wire.specs.Outcome.{pass, fail, Judged}
 use Rattle.wire.specs.Bytes.{Bytes}
 use Rattle.wire.specs.Wire.{field}
 use Rattle.wire.specs.Message.{text}
 use Rattle.gate.specs.Names.{Name}
 use Rattle.gate.specs.Walk.{Walk}
-use Rattle.gate.specs.declared.scopes.Defined.{Defined}
-use Rattle.gate.specs.declared.scopes.Defined.the-variants as defined
+use Rattle.gate.specs.declared.scopes.Progress.{Progress}
+use Rattle.gate.specs.declared.scopes.Step.{Step}
+use Rattle.gate.specs.declared.scopes.Step.the-variants as step
 
 module _ (model : Bytes) where
   -- The name in the field at a place; where no field can be read, the empty name.
@@ -25,12 +27,21 @@ module _ (model : Bytes) where
   scopeIn cells zero = []
   scopeIn cells (suc n) = nameAt (getD cells n 0) ∷ scopeIn cells n
 
-  -- What an answer says of the walk before it, with the cells as they are after it.
-  unfoldable pub definedSays : (cells : List ℕ) → Walk → Defined → Judged Walk
-  definedSays cells w (defined.Used n) = pass (record { scope = scopeIn cells n; nodes = w .nodes; most = max (w .most) n })
-  definedSays cells w (defined.Refused r) = fail r
+  -- The walk that has come so far, with these cells.
+  unfoldable pub walkIn : (cells : List ℕ) → Progress → Walk
+  walkIn cells p = record { scope = scopeIn cells (p .used); nodes = p .nodes; most = p .most }
 
--- The cells after an answer: only a name that is new is stored.
-unfoldable pub stored : Defined → (used place : ℕ) → (cells : List ℕ) → List ℕ
-stored (defined.Used n) used place cells = set cells used place
-stored (defined.Refused r) used place cells = cells
+  -- What an answer says, with the cells as they are after it.
+  unfoldable pub stepSays : (cells : List ℕ) → Step → Judged Walk
+  stepSays cells (step.Went p) = pass (walkIn cells p)
+  stepSays cells (step.Refused r) = fail r
+
+-- Names are added, and none is taken away.
+unfoldable pub grows : Progress → Step → Type 0
+grows p (step.Went q) = p .used ≤ q .used
+grows p (step.Refused r) = Unit {0}
+
+-- What stays of the cells: their number, and those in use.
+pub record Keeps (used : ℕ) (before after : List ℕ) : Type 0 where
+  pub size : length after ≡ length before
+  pub below : take used after ≡ take used before

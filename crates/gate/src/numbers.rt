@@ -13,7 +13,11 @@ pub const OPERATOR_SET_ID_VERSION: u64 = 2;
 
 pub const GRAPH_NODE: u64 = 1;
 
+pub const GRAPH_INPUT: u64 = 11;
+
 pub const NODE_INPUT: u64 = 1;
+
+pub const NODE_OUTPUT: u64 = 2;
 
 pub const NODE_NAME: u64 = 3;
 
@@ -24,6 +28,8 @@ pub const ATTRIBUTE_NAME: u64 = 1;
 pub const ATTRIBUTE_TYPE: u64 = 20;
 
 pub const ATTRIBUTE_REF_ATTR_NAME: u64 = 21;
+
+pub const VALUE_INFO_NAME: u64 = 1;
 
 pub const VALUE_INFO_TYPE: u64 = 2;
 

@@ -1,11 +1,15 @@
 // The scope of the second walk, in cells that the caller lends: a cell holds the place of the field that holds a name, and the
 // first `used` cells are in use. What they mean stands in specs/Scope.antt.
 ghost use mathlib.Core.Path.{_≡_};
-ghost use Prim.Native.Nat.{_^_, _<_};
+ghost use Prim.Native.Nat.{ℕ, _^_, _<_, max};
+ghost use mathlib.Core.List.{List};
 ghost use lib.ListN.{length, getD, replicate};
+ghost use Rattle.wire.specs.Outcome.{refused};
+ghost use Rattle.wire.specs.Bytes.{Bytes};
 ghost use Rattle.gate.specs.Verdict.{fills};
-ghost use Rattle.gate.specs.Walk.{Walk, visible, define};
-ghost use Rattle.gate.specs.Scope.{nameAt, scopeIn, definedSays, stored};
+ghost use Rattle.gate.specs.Walk.{visible, define};
+ghost use Rattle.gate.specs.Scope.{nameAt, scopeIn, walkIn, stepSays, grows, Keeps};
+ghost use Rattle.gate.specs.declared.scopes.Progress.{Progress};
 use crate::Ruling;
 use wire::Cursor;
 use wire::FieldAnswer;
@@ -13,9 +17,16 @@ use wire::Refusal;
 use wire::between;
 use wire::same_bytes;
 
-// How many cells are used with the new name, or why it may not be defined.
-pub enum Defined {
-    Used(usize),
+// How far the second walk has come: how many cells are used, the nodes so far, and the most names visible together so far.
+pub struct Progress {
+    pub used: usize,
+    pub nodes: u64,
+    pub most: usize,
+}
+
+// How far it comes with one rule more, or why that is broken.
+pub enum Step {
+    Went(Progress),
     Refused(Refusal),
 }
 
@@ -67,24 +78,44 @@ pub fn clear(cells: &mut [u32])
     }
 }
 
-// A new name, that of the field at `place`: 23, 40, "and is visible from then on".
-pub fn define(model: &[u8], cells: &mut [u32], used: usize, place: usize) -> Defined
-    requires { ⌜ place < 2 ^ 32 ⌝ }
-    ensures answer { λ r. ⌜ ((w : Walk) → w .scope ≡ scopeIn (now (model .entry)) (now (cells .entry)) used → definedSays (now (model .entry)) (now (cells .exit)) w r ≡ define (fills (length (now (cells .entry)))) w (nameAt (now (model .entry)) place)) ⌝ }
-    ensures scope { λ r. ⌜ now (cells .exit) ≡ stored r used place (now (cells .entry)) ⌝ }
+fn larger(a: usize, b: usize) -> usize
+    ensures { λ r. ⌜ r ≡ max a b ⌝ }
 {
+    if a < b {
+        return b;
+    }
+    a
+}
+
+pub fn stopped(number: u8, place: usize) -> Step
+    ensures answer { λ r. ⌜ ((model : Bytes) (cells : List ℕ) → stepSays model cells r ≡ refused number place) ⌝ }
+    ensures grown { λ r. ⌜ ((p : Progress) → grows p r) ⌝ }
+{
+    Step::Refused(Refusal {
+        number: number,
+        place: place,
+    })
+}
+
+// A new name, that of the field at `place`: 23, 40, "and is visible from then on".
+pub fn define(model: &[u8], cells: &mut [u32], p: Progress, place: usize) -> Step
+    requires { ⌜ place < 2 ^ 32 ⌝ }
+    ensures answer { λ r. ⌜ stepSays (now (model .entry)) (now (cells .exit)) r ≡ define (fills (length (now (cells .entry)))) (walkIn (now (model .entry)) (now (cells .entry)) p) (nameAt (now (model .entry)) place) ⌝ }
+    ensures grown { λ r. ⌜ grows p r ⌝ }
+    ensures kept { λ _. ⌜ Keeps (p .used) (now (cells .entry)) (now (cells .exit)) ⌝ }
+{
+    let used = p.used;
     if is_visible(model, cells, used, name_at(model, place)) {
-        return Defined::Refused(Refusal {
-            number: Ruling::ALREADY_VISIBLE,
-            place: place,
-        });
+        return stopped(Ruling::ALREADY_VISIBLE, place);
     }
     if cells.len() <= used {
-        return Defined::Refused(Refusal {
-            number: Ruling::CELLS_FULL,
-            place: place,
-        });
+        return stopped(Ruling::CELLS_FULL, place);
     }
     cells[used] = place as u32;
-    Defined::Used(used + 1)
+    let more = used + 1;
+    Step::Went(Progress {
+        used: more,
+        nodes: p.nodes,
+        most: larger(p.most, more),
+    })
 }

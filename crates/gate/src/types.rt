@@ -4,6 +4,7 @@ ghost use mathlib.Core.Path.{_≡_};
 ghost use Rattle.wire.specs.Outcome.{each};
 ghost use Rattle.wire.specs.Message.{allOf, message};
 ghost use Rattle.schema.specs.Numbers.{Shape·dim};
+ghost use Rattle.gate.specs.Walk.{Context, inMain};
 ghost use Rattle.gate.specs.Types.{isElement, dim, tensorType, declaredType};
 ghost use Rattle.gate.specs.Answers.{rulingSays};
 use crate::Ruling;
@@ -95,4 +96,14 @@ pub fn declared_type(model: &[u8], v: Field) -> Ruling
         Sought::Missing => refused(Ruling::NO_TENSOR_TYPE, declared.place),
         Sought::Found(tensor, _) => tensor_type(model, tensor),
     }
+}
+
+// "in the main graph then its type"
+pub fn main_type(model: &[u8], main: bool, v: Field) -> Ruling
+    ensures { λ r. ⌜ ((k : Context) → k .main ≡ main → rulingSays r ≡ inMain k (declaredType (now (model .entry)) (message (now (model .entry)) v))) ⌝ }
+{
+    if main {
+        return declared_type(model, v);
+    }
+    Ruling::Kept
 }

@@ -19,7 +19,7 @@ use Rattle.wire.specs.declared.Cursor.{Cursor}
 use Rattle.wire.specs.declared.Sought.{Sought}
 use Rattle.wire.specs.declared.Sought.the-variants as sought
 use Rattle.wire.proofs.Tells.{Tells}
-use Rattle.wire.proofs.Reading.{Fits, AtTag, field-tells}
+use Rattle.wire.proofs.Reading.{Fits, AtTag, field-tells, field-placed}
 use Rattle.wire.proofs.Fields.{fields-bound, fields-ordered, keep-ordered}
 use Rattle.wire.proofs.CursorLaws.{says}
 
@@ -33,6 +33,8 @@ module _ (s : Bytes) (number end : ℕ) where
     more : rest ≡ allFrom (f .next)
     onward : pos < f .next
     inside : f .next ≤ end
+    read : field s end (f .place) ≡ pass f
+    placed : f .place < f .next
 
   After? : (pos : ℕ) → List Field → Type 0
   After? pos [] = Unit {0}
@@ -41,22 +43,22 @@ module _ (s : Bytes) (number end : ℕ) where
   after-kept : (n pos : ℕ) → end ≤ pos + n → After? pos (keep (λ f. eqb number (f .number)) (fieldsFrom s n end pos))
   unfolding keep fieldsFrom After? allFrom
   after-kept zero pos h = tt
-  after-kept (suc n) pos h = go (leb end pos) (field s end pos) (field-tells s end pos) (λ p k. after-kept n p k)
+  after-kept (suc n) pos h = go (leb end pos) (field s end pos) refl (field-tells s end pos) (field-placed s end pos) (λ p k. after-kept n p k)
     where
-      kept : (b : Bool) (g : Field) → Fits pos end g → After? (g .next) (keep (λ f. eqb number (f .number)) (fieldsFrom s n end (g .next))) →
+      kept : (b : Bool) (g : Field) → field s end (g .place) ≡ pass g → Fits pos end g → After? (g .next) (keep (λ f. eqb number (f .number)) (fieldsFrom s n end (g .next))) →
           After? pos (elim b [ true ↦ g ∷ keep (λ f. eqb number (f .number)) (fieldsFrom s n end (g .next)) | false ↦ keep (λ f. eqb number (f .number)) (fieldsFrom s n end (g .next)) ])
-      kept true g e ih = record { more = ap (λ (l : List Field). keep (λ f. eqb number (f .number)) l) (fields-bound s n end (g .next) (omega arith)); onward = omega arith; inside = omega arith }
-      kept false g e ih = later (keep (λ f. eqb number (f .number)) (fieldsFrom s n end (g .next))) ih
+      kept true g d e ih = record { more = ap (λ (l : List Field). keep (λ f. eqb number (f .number)) l) (fields-bound s n end (g .next) (omega arith)); onward = omega arith; inside = omega arith; read = d; placed = omega arith }
+      kept false g d e ih = later (keep (λ f. eqb number (f .number)) (fieldsFrom s n end (g .next))) ih
         where
           later : (l : List Field) → After? (g .next) l → After? pos l
           later [] a = tt
-          later (f ∷ l) a = record { more = a .more; onward = (let k = a .onward in omega arith); inside = a .inside }
+          later (f ∷ l) a = record { more = a .more; onward = (let k = a .onward in omega arith); inside = a .inside; read = a .read; placed = a .placed }
 
-      go : (b : Bool) (o : Judged Field) → Tells (Fits pos end) (AtTag pos) o → ((p : ℕ) → end ≤ p + n → After? p (keep (λ f. eqb number (f .number)) (fieldsFrom s n end p))) →
+      go : (b : Bool) (o : Judged Field) → field s end pos ≡ o → Tells (Fits pos end) (AtTag pos) o → Tells (λ (f : Field). f .place ≡ pos) (AtTag pos) o → ((p : ℕ) → end ≤ p + n → After? p (keep (λ f. eqb number (f .number)) (fieldsFrom s n end p))) →
           After? pos (keep (λ f. eqb number (f .number)) (elim b [ true ↦ [] | false ↦ elim o [ pass f ↦ f ∷ fieldsFrom s n end (f .next) | fail r ↦ [] ] ]))
-      go true o e ih = tt
-      go false (fail r) e ih = tt
-      go false (pass g) e ih = kept (eqb number (g .number)) g e (ih (g .next) (omega arith))
+      go true o d e k ih = tt
+      go false (fail r) d e k ih = tt
+      go false (pass g) d e k ih = kept (eqb number (g .number)) g (ap (field s end) k ∙ d) e (ih (g .next) (omega arith))
 
   after-first : (pos : ℕ) → After? pos (allFrom pos)
   unfolding allFrom fields
@@ -96,6 +98,8 @@ module _ (s : Bytes) (number end : ℕ) where
     pub ends : next .end ≡ end
     pub onward : pos < next .at
     pub inside : next .at ≤ end
+    pub read : field s end (f .place) ≡ pass f
+    pub placed : f .place < next .at
 
   pub all-some : (pos : ℕ) {f : Field} {next : Cursor} → some (f, next) ≡ soughtIn s number end pos → Onward pos f next
   unfolding Told After? after
@@ -109,11 +113,15 @@ module _ (s : Bytes) (number end : ℕ) where
           let at-next : next .at ≡ g .next = ap (λ (y : Cursor). y .at) n in
           let far = a .onward in
           let near = a .inside in
+          let here : f .place ≡ g .place = ap (λ (y : Field). y .place) x in
+          let short = a .placed in
           record {
             list = k ∙ ap (λ (l : List Field). g ∷ l) (a .more ∙ ap allFrom (sym at-next)) ∙ ap (λ (y : Field). y ∷ allFrom (next .at)) (sym x);
             ends = ap (λ (y : Cursor). y .end) n;
             onward = omega arith;
             inside = omega arith;
+            read = ap (λ (y : Field). field s end (y .place)) x ∙ a .read ∙ ap pass (sym x);
+            placed = omega arith;
           }
 
 -- a loop that has come to the state `t` and the cursor `c`, where the whole of it answers `o`
@@ -154,3 +162,10 @@ module _ {S : Type 0} {s : Bytes} {number end : ℕ} {step : S → Field → Jud
 
       pub along-falls : end - next .at < end - c .at
       along-falls = let far = went .onward in let near = went .inside in omega arith
+
+      -- the field was read where it lies
+      pub along-read : field s end (f .place) ≡ pass f
+      along-read = went .read
+
+      pub along-placed : f .place < end
+      along-placed = let short = went .placed in let near = went .inside in omega arith

@@ -1,12 +1,14 @@
 -- The fields of a message by number, as code looks for them.
-use Prim.Native.Nat.{ℕ}
+use Prim.Native.Nat.{ℕ, _<_}
+use native.Mathlib.Omega.{arith}
 use mathlib.Core.Path.{_≡_, refl, ap, _∙_}
 use mathlib.Core.List.{[]}
 use mathlib.Core.Option.{Option, none, some}
 use lib.Dec.{eqb}
+use Rattle.wire.specs.Outcome.{pass}
 use Rattle.wire.specs.Lists.{first, keep}
 use Rattle.wire.specs.Bytes.{Bytes}
-use Rattle.wire.specs.Wire.{fields}
+use Rattle.wire.specs.Wire.{field, fields}
 use Rattle.wire.specs.Message.{allOf, firstOf, numberOf, placeOf, text, bytesOf, message}
 use Rattle.wire.specs.Answers.{soughtSays, foundSays, after, soughtIn}
 use Rattle.wire.specs.declared.Field.{Field}
@@ -14,6 +16,7 @@ use Rattle.wire.specs.declared.Cursor.{Cursor}
 use Rattle.wire.specs.declared.Sought.{Sought}
 use Rattle.wire.specs.declared.Sought.the-variants as sought
 use Rattle.wire.proofs.CursorLaws.{says}
+use Rattle.wire.proofs.Along.{Onward, all-some}
 
 unfoldable without : Option (Field × Cursor) → Option Field
 without none = none
@@ -67,3 +70,15 @@ module _ (s : Bytes) (number : ℕ) (f : Field) where
       pub bytes-found : text s g ≡ bytesOf s number (message s f)
       unfolding bytesOf
       bytes-found = ap (λ (o : Option Field). elim o [ none ↦ [] | some h ↦ text s h ]) found
+
+-- a message's first field with a number was read where it lies
+module _ (s : Bytes) (number : ℕ) (m : Field) {f : Field} (k : some f ≡ firstOf number (message s m)) where
+  first-onward : Onward s number (m .next) (m .start) f (record { at = f .next; end = m .next })
+  unfolding soughtIn firstOf allOf message after
+  first-onward = all-some s number (m .next) (m .start) (ap (λ (o : Option Field). elim o [ none ↦ none | some g ↦ some (after (m .next) g) ]) k)
+
+  pub first-read : field s (m .next) (f .place) ≡ pass f
+  first-read = first-onward .read
+
+  pub first-placed : f .place < m .next
+  first-placed = let short = first-onward .placed in let near = first-onward .inside in omega arith

@@ -66,3 +66,12 @@ module _ (model : Bytes) where
       go : (t : Tag) → (t .place ≡ pos) × (pos < t .next) → (o : Judged Field) → Tells (Follows t end) (AtTag (t .place)) o → Tells (Fits pos end) (AtTag pos) o
       go t h (pass f) k = (omega arith, omega arith, omega arith, omega arith)
       go t h (fail r) k = (k .0, omega arith)
+
+  -- a field lies where it was read
+  pub field-placed : (end pos : ℕ) → Tells (λ (f : Field). f .place ≡ pos) (AtTag pos) (field model end pos)
+  unfolding field
+  field-placed end pos = tells-bind (λ t. (t .place ≡ pos) × (pos < t .next)) (λ (f : Field). f .place ≡ pos) (AtTag pos) _ _ (tag-tells end pos) (λ t h. go t h (value model t end) (value-tells t end))
+    where
+      go : (t : Tag) → (t .place ≡ pos) × (pos < t .next) → (o : Judged Field) → Tells (Follows t end) (AtTag (t .place)) o → Tells (λ (f : Field). f .place ≡ pos) (AtTag pos) o
+      go t h (pass f) k = omega arith
+      go t h (fail r) k = (k .0, omega arith)

@@ -1,0 +1,15 @@
+use mathlib.Core.Path.{refl}
+use Rattle.gate.specs.Scope.{stepSays, grows}
+use borrow.Author.Needs.{needs}
+use Rattle.gate.proofs.scopes.stopped.Statement.{statement}
+use Rattle.gate.proofs.scopes.stopped.Tie as tie
+
+returns : tie.Need-returns
+unfolding stepSays grows
+returns c = (λ model cells. refl, λ p. tt)
+
+pub stopped-spec : {M : Type 1} → statement M
+stopped-spec =
+    tie.close
+    (tie.spec
+    returns)

@@ -1,0 +1,74 @@
+// The inputs of a graph. A cell holds the place of a name, so the model is shorter than the greatest number in one.
+ghost use mathlib.Core.Path.{_≡_};
+ghost use Prim.Native.Nat.{_^_, _<_, _≤_};
+ghost use lib.ListN.{length};
+ghost use Rattle.wire.specs.Outcome.{each};
+ghost use Rattle.wire.specs.Message.{allOf, message};
+ghost use Rattle.schema.specs.Numbers.{Graph·input};
+ghost use Rattle.gate.specs.Verdict.{fills};
+ghost use Rattle.gate.specs.Walk.{Context};
+ghost use Rattle.gate.specs.Graph.{input};
+ghost use Rattle.gate.specs.Scope.{walkIn, stepSays, grows, Keeps};
+use crate::Ruling;
+use crate::names::Naming;
+use crate::names::read_name;
+use crate::numbers::GRAPH_INPUT;
+use crate::numbers::VALUE_INFO_NAME;
+use crate::scopes::Progress;
+use crate::scopes::Step;
+use crate::scopes::define;
+use crate::types::main_type;
+use wire::Cursor;
+use wire::Field;
+use wire::Sought;
+
+// "Input: 22, 21, 23, 40; in the main graph then its type."
+fn input(model: &[u8], cells: &mut [u32], main: bool, p: Progress, f: Field) -> Step
+    requires { ⌜ length (now model) < 2 ^ 32 ⌝ }
+    requires { ⌜ f .next ≤ length (now model) ⌝ }
+    ensures answer { λ r. ⌜ ((k : Context) → k .main ≡ main → stepSays (now (model .entry)) (now (cells .exit)) r ≡ input (now (model .entry)) (fills (length (now (cells .entry)))) k (walkIn (now (model .entry)) (now (cells .entry)) p) f) ⌝ }
+    ensures grown { λ r. ⌜ grows p r ⌝ }
+    ensures kept { λ _. ⌜ Keeps (p .used) (now (cells .entry)) (now (cells .exit)) ⌝ }
+{
+    match read_name(model, f, VALUE_INFO_NAME, Ruling::NAME_EMPTY) {
+        Naming::Refused(r) => Step::Refused(r),
+        Naming::Named(name) => {
+            let step = define(model, cells, p, name.place);
+            let Step::Went(q) = step else {
+                return step;
+            };
+            match main_type(model, main, f) {
+                Ruling::Refused(r) => Step::Refused(r),
+                Ruling::Kept => Step::Went(q),
+            }
+        }
+    }
+}
+
+pub fn inputs(model: &[u8], cells: &mut [u32], main: bool, p: Progress, graph: Field) -> Step
+    requires { ⌜ length (now model) < 2 ^ 32 ⌝ }
+    requires { ⌜ graph .next ≤ length (now model) ⌝ }
+    ensures answer { λ r. ⌜ ((k : Context) → k .main ≡ main → stepSays (now (model .entry)) (now (cells .exit)) r ≡ each (input (now (model .entry)) (fills (length (now (cells .entry)))) k) (walkIn (now (model .entry)) (now (cells .entry)) p) (allOf Graph·input (message (now (model .entry)) graph))) ⌝ }
+    ensures grown { λ r. ⌜ grows p r ⌝ }
+    ensures kept { λ _. ⌜ Keeps (p .used) (now (cells .entry)) (now (cells .exit)) ⌝ }
+{
+    let start = graph.start;
+    let end = graph.next;
+    let mut c = Cursor {
+        at: start,
+        end: end,
+    };
+    let mut q = p;
+    loop {
+        let sought = c.next_of(model, GRAPH_INPUT);
+        let Sought::Found(f, next) = sought else {
+            return Step::Went(q);
+        };
+        let step = input(model, cells, main, q, f);
+        let Step::Went(further) = step else {
+            return step;
+        };
+        q = further;
+        c = next;
+    }
+}

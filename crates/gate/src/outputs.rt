@@ -1,0 +1,68 @@
+// What a node adds to the scope.
+ghost use mathlib.Core.Path.{_≡_};
+ghost use Prim.Native.Nat.{_^_, _<_, _≤_};
+ghost use lib.ListN.{length};
+ghost use Rattle.wire.specs.Outcome.{each};
+ghost use Rattle.wire.specs.Message.{allOf, message};
+ghost use Rattle.schema.specs.Numbers.{Node·output};
+ghost use Rattle.gate.specs.Verdict.{fills};
+ghost use Rattle.gate.specs.Names.{nameIn};
+ghost use Rattle.gate.specs.Node.{nodeOutput};
+ghost use Rattle.gate.specs.Scope.{nameAt, walkIn, stepSays, grows, Keeps};
+use crate::Ruling;
+use crate::identifiers::is_identifier;
+use crate::numbers::NODE_OUTPUT;
+use crate::scopes::Progress;
+use crate::scopes::Step;
+use crate::scopes::define;
+use crate::scopes::stopped;
+use wire::Cursor;
+use wire::Field;
+use wire::Sought;
+
+// "An empty input or output means "left out" and is passed over." "Output: 21, 23, 40, and is visible from then on."
+fn node_output(model: &[u8], cells: &mut [u32], p: Progress, f: Field) -> Step
+    requires { ⌜ f .place < 2 ^ 32 ⌝ }
+    requires { ⌜ nameAt (now model) (f .place) ≡ nameIn (now model) f ⌝ }
+    ensures answer { λ r. ⌜ stepSays (now (model .entry)) (now (cells .exit)) r ≡ nodeOutput (now (model .entry)) (fills (length (now (cells .entry)))) (walkIn (now (model .entry)) (now (cells .entry)) p) f ⌝ }
+    ensures grown { λ r. ⌜ grows p r ⌝ }
+    ensures kept { λ _. ⌜ Keeps (p .used) (now (cells .entry)) (now (cells .exit)) ⌝ }
+{
+    let text = f.text(model);
+    if text.len() == 0 {
+        return Step::Went(p);
+    }
+    if !is_identifier(text) {
+        return stopped(Ruling::NOT_IDENTIFIER, f.place);
+    }
+    define(model, cells, p, f.place)
+}
+
+// A cell holds the place of a name, so the model is shorter than the greatest number in one.
+pub fn node_outputs(model: &[u8], cells: &mut [u32], p: Progress, node: Field) -> Step
+    requires { ⌜ length (now model) < 2 ^ 32 ⌝ }
+    requires { ⌜ node .next ≤ length (now model) ⌝ }
+    ensures answer { λ r. ⌜ stepSays (now (model .entry)) (now (cells .exit)) r ≡ each (nodeOutput (now (model .entry)) (fills (length (now (cells .entry))))) (walkIn (now (model .entry)) (now (cells .entry)) p) (allOf Node·output (message (now (model .entry)) node)) ⌝ }
+    ensures grown { λ r. ⌜ grows p r ⌝ }
+    ensures kept { λ _. ⌜ Keeps (p .used) (now (cells .entry)) (now (cells .exit)) ⌝ }
+{
+    let start = node.start;
+    let end = node.next;
+    let mut c = Cursor {
+        at: start,
+        end: end,
+    };
+    let mut q = p;
+    loop {
+        let sought = c.next_of(model, NODE_OUTPUT);
+        let Sought::Found(f, next) = sought else {
+            return Step::Went(q);
+        };
+        let step = node_output(model, cells, q, f);
+        let Step::Went(further) = step else {
+            return step;
+        };
+        q = further;
+        c = next;
+    }
+}
