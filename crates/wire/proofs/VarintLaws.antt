@@ -134,3 +134,9 @@ module _ {s : Bytes} {place end from value scale left pos : ℕ} (q : Reading s 
     room = mul-assoc scale 128 (limit (left - 1)) ∙ ap (λ (x : ℕ). scale * x) (sym (limit-more left l)) ∙ q .room;
     whole = onto-more value scale b _ k hi ∙ ap (onto value scale) (ap (λ (x : ℕ). varintFrom s (left - 1) place end (pos + 1) >>= λ high. pass (record { value = x % 128 + 128 * high .value; next = high .next })) e ∙ sym (varint-more s place end pos left l h (rw e at k))) ∙ q .whole;
   }
+
+-- a varint of one byte
+pub varint-short : (s : Bytes) (place end from b : ℕ) → from < end → b ≡ byte s from → b < 128 → pass (record { value = b; next = from + 1 }) ≡ varint s place end from
+varint-short s place end from b h e k =
+    let one : b ≡ 0 + 1 * b = omega arith in
+    ap (λ (n : ℕ). pass (record { value = n; next = from + 1 })) one ∙ turn-last (reading-start s place end from) b h (inr (λ l. absurd (omega arith))) e k

@@ -18,8 +18,24 @@ fn byte_at(s: &[u8], pos: usize) -> u64
     0
 }
 
-// The varint at `from`, of the field whose tag is at `place`, in a message that ends at `end`.
+// The varint at `from`, of the field whose tag is at `place`, in a message that ends at `end`. Most have one byte: these are read
+// where the call stands, with no loop.
 pub fn read_varint(s: &[u8], place: usize, end: usize, from: usize) -> VarintAnswer
+    ensures { λ r. ⌜ varintSays r ≡ varint (now (s .entry)) place end from ⌝ }
+{
+    if from < end {
+        let b = byte_at(s, from);
+        if b < 128 {
+            return VarintAnswer::Read(Varint {
+                value: b,
+                next: from + 1,
+            });
+        }
+    }
+    read_long_varint(s, place, end, from)
+}
+
+fn read_long_varint(s: &[u8], place: usize, end: usize, from: usize) -> VarintAnswer
     ensures { λ r. ⌜ varintSays r ≡ varint (now (s .entry)) place end from ⌝ }
 {
     let mut pos = from;
