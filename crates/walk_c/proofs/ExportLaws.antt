@@ -1,8 +1,7 @@
 -- Each case of the walk's answer, and varints counted by a loop.
 use Prim.Native.Nat.{ℕ, zero, suc, _+_, _≤_, _<_}
 use native.Mathlib.Omega.{arith}
-use mathlib.Core.Path.{_≡_, refl, sym, ap, _∙_}
-use mathlib.Core.Bool.{Bool, true, false}
+use mathlib.Core.Path.{_≡_, refl, sym, ap}
 use lib.ListN.{length}
 use lib.Dec.{leb, le→leb}
 use mir.Facts.{no-leb}
