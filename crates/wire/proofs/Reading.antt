@@ -34,7 +34,7 @@ unfolding sized contains
 sized-tells t end v start size h = tells-rule (Follows t end) (AtTag (t .place)) 1 _ _ _ (λ g. (tt, refl)) (λ g. let k = nltb→le end (start + size) g in (refl, refl, h, omega arith, k))
 
 module _ (model : Bytes) where
-  varint-tells : (left place end pos : ℕ) → Tells (λ v. pos < v .next) (AtTag place) (varintFrom model left place end pos)
+  pub varint-tells : (left place end pos : ℕ) → Tells (λ v. pos < v .next) (AtTag place) (varintFrom model left place end pos)
   unfolding varintFrom contains
   varint-tells zero place end pos = (tt, refl)
   varint-tells (suc left) place end pos =

@@ -1,0 +1,139 @@
+//! The proved first walk and varint reader against ones written by hand in Rust, timed in one process.
+//! A word on the command line picks the workloads whose names contain it.
+mod generate;
+mod rattle;
+mod walker;
+
+use generate::{Message, Random};
+use rattle::Answer;
+use std::hint::black_box;
+use std::time::{Duration, Instant};
+
+const SIZE: usize = 100_000_000;
+const DAMAGED: usize = 200_000;
+const RUNS: usize = 15;
+
+/// What to walk or count, and how many times to make one timing of it.
+struct Workload {
+    name: &'static str,
+    calls: u32,
+    make: fn() -> Message,
+}
+
+const fn workload(name: &'static str, calls: u32, make: fn() -> Message) -> Workload {
+    Workload { name, calls, make }
+}
+
+const COUNTED: [Workload; 2] = [
+    workload("varints, 1 to 10 bytes", 1, || {
+        generate::varints(&mut Random(1), SIZE, 10)
+    }),
+    workload("varints, 1 or 2 bytes", 1, || {
+        generate::varints(&mut Random(2), SIZE, 2)
+    }),
+];
+
+const WALKED: [Workload; 4] = [
+    workload("flat graph of small nodes", 1, || {
+        generate::flat(&mut Random(3), SIZE)
+    }),
+    workload("unknown fields", 1, || {
+        generate::unknown(&mut Random(4), SIZE)
+    }),
+    workload("nested to depth 8", 1, || {
+        generate::nested(&mut Random(5), SIZE, 8)
+    }),
+    workload("one bytes field", 1_000_000, || generate::one_field(SIZE)),
+];
+
+/// What the hand-written walker answers, in the same numbers.
+fn by_hand(model: &[u8]) -> Answer {
+    match walker::first_walk(model) {
+        Ok(()) => Answer {
+            number: 0,
+            place: 0,
+        },
+        Err(r) => Answer {
+            number: r.rule as u64,
+            place: r.place as u64,
+        },
+    }
+}
+
+/// What both walkers answer, and both varint loops count.
+fn agree(model: &[u8]) -> (Answer, u64) {
+    let both = (rattle::first_walk(model), rattle::varints(model));
+    assert!(
+        both == (by_hand(model), walker::varints(model)),
+        "they differ on {:02X?}",
+        &model[..model.len().min(1000)]
+    );
+    both
+}
+
+/// They agree on damaged models, among which every refusal occurs.
+fn check_damaged() {
+    let mut r = Random(0);
+    let mut given = [0; 7];
+    for _ in 0..DAMAGED {
+        let (answer, _) = agree(&generate::damaged(&mut r));
+        given[answer.number as usize] += 1;
+    }
+    let [passed, refused @ ..] = given;
+    println!(
+        "agree on {DAMAGED} damaged models: {passed} pass, {refused:?} are refused with 1 to 6\n"
+    );
+    assert!(given.iter().all(|&n| n > 0));
+}
+
+fn time<T>(bytes: &[u8], calls: u32, f: fn(&[u8]) -> T) -> Duration {
+    let start = Instant::now();
+    for _ in 0..calls {
+        black_box(f(black_box(bytes)));
+    }
+    start.elapsed() / calls
+}
+
+/// A line of the table: the best of several runs of each, taken in turn.
+fn compare<T>(w: &Workload, load: &Message, proved: fn(&[u8]) -> T, by_hand: fn(&[u8]) -> T) {
+    let mut best = [Duration::MAX; 2];
+    for _ in 0..RUNS {
+        best[0] = best[0].min(time(&load.bytes, w.calls, proved));
+        best[1] = best[1].min(time(&load.bytes, w.calls, by_hand));
+    }
+    let [rattle, rust] = best.map(|t| t.as_secs_f64());
+    // where nearly all bytes are passed over at once, there is no speed in bytes
+    let speed = |t: f64| match w.calls {
+        1 => format!("{:.0}", load.bytes.len() as f64 / t / 1e6),
+        _ => "-".into(),
+    };
+    println!(
+        "{:5.2}  {:26} {:10} {:>7} {:>6} {:8.1} {:6.1}",
+        rattle / rust,
+        w.name,
+        load.fields,
+        speed(rattle),
+        speed(rust),
+        rattle * 1e9 / load.fields as f64,
+        rust * 1e9 / load.fields as f64
+    );
+}
+
+fn main() {
+    let word = std::env::args().nth(1).unwrap_or_default();
+    let picked = |w: &&Workload| w.name.contains(&word);
+    check_damaged();
+
+    println!("                                                  MB/s       ns per field");
+    println!("ratio  workload of 100 MB             fields  Rattle   Rust   Rattle   Rust");
+    for w in COUNTED.iter().filter(picked) {
+        let load = (w.make)();
+        assert_eq!(agree(&load.bytes).1, load.fields);
+        compare(w, &load, rattle::varints, walker::varints);
+    }
+    for w in WALKED.iter().filter(picked) {
+        let load = (w.make)();
+        assert_eq!(agree(&load.bytes).0.number, 0);
+        compare(w, &load, rattle::first_walk, by_hand);
+    }
+}
