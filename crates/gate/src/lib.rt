@@ -47,6 +47,8 @@ impl Ruling {
 
     pub const INPUT_NOT_VISIBLE: u8 = 30;
 
+    pub const OUTPUT_NOT_VISIBLE: u8 = 35;
+
     pub const NO_SHAPE: u8 = 37;
 
     pub const NEGATIVE_DIM: u8 = 38;
