@@ -171,16 +171,11 @@ fn walk(model: &[u8], kind: Kind, depth: u32, start: usize, end: usize) -> Resul
         pos = inside + size as usize;
 
         if let Some(inner) = opens {
-            if inner == Kind::Graph && depth == DEEPEST {
+            let depth = depth + u32::from(inner == Kind::Graph);
+            if depth > DEEPEST {
                 return Err(refuse(Rule::TooDeep));
             }
-            walk(
-                model,
-                inner,
-                depth + u32::from(inner == Kind::Graph),
-                inside,
-                pos,
-            )?;
+            walk(model, inner, depth, inside, pos)?;
         }
     }
     Ok(())

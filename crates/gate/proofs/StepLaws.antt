@@ -4,7 +4,7 @@ use native.Mathlib.Omega.{arith}
 use mathlib.Core.Path.{_≡_, refl, sym, ap, _∙_}
 use mathlib.Core.List.{List}
 use lib.ListN.{length}
-use Rattle.wire.specs.Outcome.{pass, fail, Judged}
+use Rattle.wire.specs.Outcome.{Judged}
 use Rattle.wire.specs.Bytes.{Bytes}
 use Rattle.wire.specs.Wire.{field}
 use Rattle.wire.specs.Answers.{soughtSays, soughtIn}
@@ -16,7 +16,7 @@ use Rattle.wire.specs.declared.Sought.the-variants as sought
 use Rattle.wire.proofs.Passing.{passed-tells}
 use Rattle.wire.proofs.Reading.{Fits, AtTag, field-tells}
 use Rattle.wire.proofs.CursorLaws.{says}
-use Rattle.wire.proofs.Along.{Along, along-start, along-done, along-fails, along-goes, along-falls, along-read, along-placed}
+use Rattle.wire.proofs.Along.{Along, along-done, along-fails, along-goes, along-falls, along-read, along-placed}
 use Rattle.gate.specs.Names.{nameIn}
 use Rattle.gate.specs.Walk.{Walk}
 use Rattle.gate.specs.Scope.{nameAt, walkIn, stepSays, grows, Keeps}

@@ -57,6 +57,8 @@ impl Ruling {
 
     pub const REFERENCE_PRESENT: u8 = 33;
 
+    pub const OUTPUT_NOT_VISIBLE: u8 = 35;
+
     pub const NO_SHAPE: u8 = 37;
 
     pub const NEGATIVE_DIM: u8 = 38;

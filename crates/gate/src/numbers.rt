@@ -15,6 +15,8 @@ pub const GRAPH_NODE: u64 = 1;
 
 pub const GRAPH_INPUT: u64 = 11;
 
+pub const GRAPH_OUTPUT: u64 = 12;
+
 pub const NODE_INPUT: u64 = 1;
 
 pub const NODE_OUTPUT: u64 = 2;

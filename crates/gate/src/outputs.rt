@@ -1,21 +1,31 @@
-// What a node adds to the scope.
+// The outputs of a node, which are new names, and those of a graph, which are visible ones.
 ghost use mathlib.Core.Path.{_≡_};
 ghost use Prim.Native.Nat.{_^_, _<_, _≤_};
 ghost use lib.ListN.{length};
 ghost use Rattle.wire.specs.Outcome.{each};
 ghost use Rattle.wire.specs.Message.{allOf, message};
-ghost use Rattle.schema.specs.Numbers.{Node·output};
+ghost use Rattle.schema.specs.Numbers.{Node·output, Graph·output};
 ghost use Rattle.gate.specs.Verdict.{fills};
 ghost use Rattle.gate.specs.Names.{nameIn};
+ghost use Rattle.gate.specs.Walk.{Context};
 ghost use Rattle.gate.specs.Node.{nodeOutput};
-ghost use Rattle.gate.specs.Scope.{nameAt, walkIn, stepSays, grows, Keeps};
+ghost use Rattle.gate.specs.Graph.{output};
+ghost use Rattle.gate.specs.Scope.{nameAt, scopeIn, walkIn, stepSays, grows, Keeps};
+ghost use Rattle.gate.specs.Answers.{rulingSays};
 use crate::Ruling;
 use crate::identifiers::is_identifier;
+use crate::names::Naming;
+use crate::names::read_name;
+use crate::numbers::GRAPH_OUTPUT;
 use crate::numbers::NODE_OUTPUT;
+use crate::numbers::VALUE_INFO_NAME;
+use crate::rulings::refused;
 use crate::scopes::Progress;
 use crate::scopes::Step;
 use crate::scopes::define;
+use crate::scopes::is_visible;
 use crate::scopes::stopped;
+use crate::types::main_type;
 use wire::Cursor;
 use wire::Field;
 use wire::Sought;
@@ -63,6 +73,43 @@ pub fn node_outputs(model: &[u8], cells: &mut [u32], p: Progress, node: Field) -
             return step;
         };
         q = further;
+        c = next;
+    }
+}
+
+// "Graph output: 22, 21, 35; in the main graph then its type. An outer name serves. The same output may be listed twice."
+fn graph_output(model: &[u8], cells: &[u32], used: usize, main: bool, f: Field) -> Ruling
+    ensures { λ r. ⌜ ((k : Context) → k .main ≡ main → rulingSays r ≡ output (now (model .entry)) k (scopeIn (now (model .entry)) (now (cells .entry)) used) tt f) ⌝ }
+{
+    match read_name(model, f, VALUE_INFO_NAME, Ruling::NAME_EMPTY) {
+        Naming::Refused(r) => Ruling::Refused(r),
+        Naming::Named(name) => {
+            if !is_visible(model, cells, used, name.text(model)) {
+                return refused(Ruling::OUTPUT_NOT_VISIBLE, name.place);
+            }
+            main_type(model, main, f)
+        }
+    }
+}
+
+pub fn graph_outputs(model: &[u8], cells: &[u32], used: usize, main: bool, graph: Field) -> Ruling
+    ensures { λ r. ⌜ ((k : Context) → k .main ≡ main → rulingSays r ≡ each (output (now (model .entry)) k (scopeIn (now (model .entry)) (now (cells .entry)) used)) tt (allOf Graph·output (message (now (model .entry)) graph))) ⌝ }
+{
+    let start = graph.start;
+    let end = graph.next;
+    let mut c = Cursor {
+        at: start,
+        end: end,
+    };
+    loop {
+        let sought = c.next_of(model, GRAPH_OUTPUT);
+        let Sought::Found(f, next) = sought else {
+            return Ruling::Kept;
+        };
+        let ruling = graph_output(model, cells, used, main, f);
+        let Ruling::Kept = ruling else {
+            return ruling;
+        };
         c = next;
     }
 }
