@@ -18,8 +18,8 @@ fn byte_at(s: &[u8], pos: usize) -> u64
     0
 }
 
-// The varint at `from`, of the field whose tag is at `place`, in a message that ends at `end`. Most have one byte: these are read
-// where the call stands, with no loop.
+// The varint at `from`, of the field whose tag is at `place`, in a message that ends at `end`. Most have one byte, and need no
+// loop.
 pub fn read_varint(s: &[u8], place: usize, end: usize, from: usize) -> VarintAnswer
     ensures { λ r. ⌜ varintSays r ≡ varint (now (s .entry)) place end from ⌝ }
 {
