@@ -1,5 +1,5 @@
 -- A varint as a loop: a value so far, and a scale for what follows.
-use Prim.Native.Nat.{ℕ, zero, suc, _+_, _-_, _*_, _%_, _^_, _≤_, _<_}
+use Prim.Native.Nat.{ℕ, min, zero, suc, _+_, _-_, _*_, _%_, _^_, _≤_, _<_}
 use native.Mathlib.Omega.{arith}
 use native.Mathlib.Nat.{mul-le-mul-left, mul-add, mul-assoc}
 use mathlib.Core.Path.{_≡_, refl, sym, ap, _∙_}
@@ -135,8 +135,60 @@ module _ {s : Bytes} {place end from value scale left pos : ℕ} (q : Reading s 
     whole = onto-more value scale b _ k hi ∙ ap (onto value scale) (ap (λ (x : ℕ). varintFrom s (left - 1) place end (pos + 1) >>= λ high. pass (record { value = x % 128 + 128 * high .value; next = high .next })) e ∙ sym (varint-more s place end pos left l h (rw e at k))) ∙ q .whole;
   }
 
--- a varint of one byte
-pub varint-short : (s : Bytes) (place end from b : ℕ) → from < end → b ≡ byte s from → b < 128 → pass (record { value = b; next = from + 1 }) ≡ varint s place end from
-varint-short s place end from b h e k =
-    let one : b ≡ 0 + 1 * b = omega arith in
-    ap (λ (n : ℕ). pass (record { value = n; next = from + 1 })) one ∙ turn-last (reading-start s place end from) b h (inr (λ l. absurd (omega arith))) e k
+pub one-byte : (s : Bytes) (place end from b : ℕ) → from < end → b ≡ byte s from → b < 128 → pass (record { value = b; next = from + 1 }) ≡ varint s place end from
+unfolding varint
+one-byte s place end from b h e k = rw e (sym (varint-last s place end from 10 (omega arith) h (inr (λ q. omega arith)) (rw e at k)))
+
+-- ---- the loop up to the tenth byte, or to the end before it
+
+pub record Going (s : Bytes) (place end from stop pos value scale : ℕ) : Type 0 where
+  pub left : ℕ
+  pub count : pos + left ≡ from + 10
+  pub until : stop ≡ min end (from + 9)
+  pub inside : pos ≤ stop
+  pub reads : Reading s place end from value scale left pos
+
+pub go-start : (s : Bytes) (place end from stop : ℕ) → from < end → stop ≡ min end (from + 9) → Going s place end from stop from 0 1
+go-start s place end from stop h e = record { left = 10; count = refl; until = e; inside = omega arith; reads = reading-start s place end from }
+
+module _ {s : Bytes} {place end from stop pos value scale : ℕ} (q : Going s place end from stop pos value scale) where
+  module _ (h : pos < stop) where
+    more : 2 ≤ q .left
+    more = omega (arith, q .count, q .until)
+
+    within : pos < end
+    within = omega (arith, q .until)
+
+    pub go-scale : scale * 128 < 2 ^ 64
+    go-scale = scale-fits (q .reads) more
+
+    pub go-small : (b : ℕ) → b ≤ 127 → value + scale * b < 2 ^ 64
+    go-small b l = small-fits (q .reads) b more l
+
+    pub go-last : (b : ℕ) → b ≡ byte s pos → b < 128 → pass (record { value = value + scale * b; next = pos + 1 }) ≡ varint s place end from
+    go-last b e k = turn-last (q .reads) b within (inr (λ z. omega (arith, more))) e k
+
+    pub go-more : (b : ℕ) → b ≡ byte s pos → 128 ≤ b → b < 256 → Going s place end from stop (pos + 1) (value + scale * (b - 128)) (scale * 128)
+    go-more b e k hi = record {
+      left = q .left - 1;
+      count = omega (arith, more, q .count);
+      until = q .until;
+      inside = omega arith;
+      reads = turn-more (q .reads) b more within e k hi;
+    }
+
+  pub go-past : end ≤ pos → refused 1 place ≡ varint s place end from
+  go-past k = turn-past (q .reads) k
+
+  module _ (h : stop ≤ pos) (k : pos < end) where
+    tenth : q .left ≡ 1
+    tenth = omega (arith, q .count, q .until, q .inside)
+
+    pub go-fits : (b : ℕ) → b ≤ 1 → value + scale * b < 2 ^ 64
+    go-fits b l = last-fits (q .reads) b tenth l
+
+    pub go-tenth : (b : ℕ) → b ≡ byte s pos → 1 < b → refused 2 place ≡ varint s place end from
+    go-tenth b e l = turn-tenth (q .reads) b tenth k e l
+
+    pub go-end : (b : ℕ) → b ≡ byte s pos → b ≤ 1 → pass (record { value = value + scale * b; next = pos + 1 }) ≡ varint s place end from
+    go-end b e l = turn-last (q .reads) b k (inl (tenth, l)) e (omega arith)
