@@ -19,7 +19,7 @@ use crate::rulings::refused;
 use wire::Field;
 
 // "Attribute: 22, 21, 31, 33, 32; then its graphs in order": all but the graphs.
-pub fn attribute_rules(model: &[u8], node: Field, a: Field) -> Ruling
+pub(crate) fn attribute_rules(model: &[u8], node: Field, a: Field) -> Ruling
     ensures { λ r. ⌜ rulingSays r ≡ silent (attribute (now (model .entry)) passing (after (namesIn (now (model .entry)) Attribute·name (before (a .place) (allOf Node·attribute (message (now (model .entry)) node))))) a) ⌝ }
 {
     let naming = read_name(model, a, ATTRIBUTE_NAME, Ruling::NAME_EMPTY);

@@ -107,7 +107,7 @@ fn has_foreign(model: &[u8], a: Field, mine: u64) -> bool
 }
 
 // "Refusal 32 when type is outside 1..14, another carrier occurs, or types 4, 5, 11 or 13 lack theirs. The rest may be absent."
-pub fn is_bad_value(model: &[u8], a: Field) -> bool
+pub(crate) fn is_bad_value(model: &[u8], a: Field) -> bool
     ensures { λ r. ⌜ r ≡ badValue (numberOf Attribute·type (message (now (model .entry)) a)) (message (now (model .entry)) a) ⌝ }
 {
     let kind = a.number_of(model, ATTRIBUTE_TYPE);

@@ -9,7 +9,14 @@ use wire::Sought;
 use wire::same_bytes;
 
 // Of the messages in fields `number` of `m`, as far as they stand before `place`: does one have `text` in its field `name`?
-pub fn is_earlier(model: &[u8], m: Field, number: u64, name: u64, place: usize, text: &[u8]) -> bool
+pub(crate) fn is_earlier(
+    model: &[u8],
+    m: Field,
+    number: u64,
+    name: u64,
+    place: usize,
+    text: &[u8],
+) -> bool
     ensures { λ r. ⌜ r ≡ member (now (text .entry)) (namesIn (now (model .entry)) name (before place (allOf number (message (now (model .entry)) m)))) ⌝ }
 {
     let start = m.start;

@@ -84,7 +84,7 @@ fn is_imported_before(model: &[u8], place: usize, d: &[u8]) -> bool
 }
 
 // Does the model import the domain?
-pub fn is_imported(model: &[u8], d: &[u8]) -> bool
+pub(crate) fn is_imported(model: &[u8], d: &[u8]) -> bool
     ensures { λ r. ⌜ r ≡ member (domain (now (d .entry))) (importsIn (now (model .entry))) ⌝ }
 {
     is_imported_before(model, model.len(), d)
@@ -125,7 +125,7 @@ fn opset_imports(model: &[u8], list: &[u8]) -> Ruling
 }
 
 // What a model says of itself, before its main graph is judged.
-pub fn header(model: &[u8], list: &[u8]) -> Ruling
+pub(crate) fn header(model: &[u8], list: &[u8]) -> Ruling
     ensures { λ r. ⌜ rulingSays r ≡ silent (header (now (model .entry)) (now (list .entry)) (message (now (model .entry)) (whole (now (model .entry))))) ⌝ }
 {
     let m = whole(model);

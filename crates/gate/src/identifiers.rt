@@ -40,7 +40,7 @@ fn is_word(b: u8) -> bool
     is_digit(b)
 }
 
-pub fn is_identifier(name: &[u8]) -> bool
+pub(crate) fn is_identifier(name: &[u8]) -> bool
     ensures { λ r. ⌜ r ≡ identifier (now (name .entry)) ⌝ }
 {
     if name.len() == 0 {

@@ -45,7 +45,7 @@ fn input(model: &[u8], cells: &mut [u32], main: bool, p: Progress, f: Field) -> 
     }
 }
 
-pub fn inputs(model: &[u8], cells: &mut [u32], main: bool, p: Progress, graph: Field) -> Step
+pub(crate) fn inputs(model: &[u8], cells: &mut [u32], main: bool, p: Progress, graph: Field) -> Step
     requires { ⌜ length (now model) < 2 ^ 32 ⌝ }
     requires { ⌜ graph .next ≤ length (now model) ⌝ }
     ensures answer { λ r. ⌜ ((k : Context) → k .main ≡ main → stepSays (now (model .entry)) (now (cells .exit)) r ≡ each (input (now (model .entry)) (fills (length (now (cells .entry)))) k) (walkIn (now (model .entry)) (now (cells .entry)) p) (allOf Graph·input (message (now (model .entry)) graph))) ⌝ }

@@ -35,7 +35,7 @@ fn misnamed(number: u8, place: usize) -> Naming
 }
 
 // A message's name, which may not be empty, refusal `empty`, and must be an identifier: 21.
-pub fn read_name(model: &[u8], m: Field, number: u64, empty: u8) -> Naming
+pub(crate) fn read_name(model: &[u8], m: Field, number: u64, empty: u8) -> Naming
     ensures { λ r. ⌜ namingSays (now (model .entry)) r ≡ naming (now (model .entry)) empty number (message (now (model .entry)) m) ⌝ }
 {
     let Sought::Found(name, _) = m.first_of(model, number) else {
@@ -52,7 +52,7 @@ pub fn read_name(model: &[u8], m: Field, number: u64, empty: u8) -> Naming
 }
 
 // The ruling on a name that may not stand.
-pub fn misnaming(n: Naming) -> Ruling
+pub(crate) fn misnaming(n: Naming) -> Ruling
     ensures { λ r. ⌜ ((model : Bytes) → rulingSays r ≡ silent (namingSays model n)) ⌝ }
 {
     match n {
@@ -78,7 +78,7 @@ fn node_input(model: &[u8], cells: &[u32], used: usize, f: Field) -> Ruling
     refused(Ruling::INPUT_NOT_VISIBLE, f.place)
 }
 
-pub fn node_inputs(model: &[u8], cells: &[u32], used: usize, node: Field) -> Ruling
+pub(crate) fn node_inputs(model: &[u8], cells: &[u32], used: usize, node: Field) -> Ruling
     ensures { λ r. ⌜ rulingSays r ≡ each (nodeInput (now (model .entry)) (scopeIn (now (model .entry)) (now (cells .entry)) used)) tt (allOf Node·input (message (now (model .entry)) node)) ⌝ }
 {
     let start = node.start;

@@ -16,7 +16,7 @@ use wire::Field;
 use wire::Sought;
 
 // "a nonempty node name (21, 29)"
-pub fn node_name(model: &[u8], graph: Field, node: Field) -> Ruling
+pub(crate) fn node_name(model: &[u8], graph: Field, node: Field) -> Ruling
     ensures { λ r. ⌜ rulingSays r ≡ silent (nodeName (now (model .entry)) (namesIn (now (model .entry)) Node·name (before (node .place) (allOf Graph·node (message (now (model .entry)) graph)))) (message (now (model .entry)) node)) ⌝ }
 {
     let Sought::Found(name, _) = node.first_of(model, NODE_NAME) else {

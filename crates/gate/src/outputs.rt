@@ -49,7 +49,7 @@ fn node_output(model: &[u8], cells: &mut [u32], p: Progress, f: Field) -> Step
 }
 
 // A cell holds the place of a name, so the model is shorter than the greatest number in one.
-pub fn node_outputs(model: &[u8], cells: &mut [u32], p: Progress, node: Field) -> Step
+pub(crate) fn node_outputs(model: &[u8], cells: &mut [u32], p: Progress, node: Field) -> Step
     requires { ⌜ length (now model) < 2 ^ 32 ⌝ }
     requires { ⌜ node .next ≤ length (now model) ⌝ }
     ensures answer { λ r. ⌜ stepSays (now (model .entry)) (now (cells .exit)) r ≡ each (nodeOutput (now (model .entry)) (fills (length (now (cells .entry))))) (walkIn (now (model .entry)) (now (cells .entry)) p) (allOf Node·output (message (now (model .entry)) node)) ⌝ }
@@ -92,7 +92,13 @@ fn graph_output(model: &[u8], cells: &[u32], used: usize, main: bool, f: Field) 
     }
 }
 
-pub fn graph_outputs(model: &[u8], cells: &[u32], used: usize, main: bool, graph: Field) -> Ruling
+pub(crate) fn graph_outputs(
+    model: &[u8],
+    cells: &[u32],
+    used: usize,
+    main: bool,
+    graph: Field,
+) -> Ruling
     ensures { λ r. ⌜ ((k : Context) → k .main ≡ main → rulingSays r ≡ each (output (now (model .entry)) k (scopeIn (now (model .entry)) (now (cells .entry)) used)) tt (allOf Graph·output (message (now (model .entry)) graph))) ⌝ }
 {
     let start = graph.start;

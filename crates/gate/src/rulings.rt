@@ -5,7 +5,7 @@ ghost use Rattle.gate.specs.Answers.{rulingSays};
 use crate::Ruling;
 use wire::Refusal;
 
-pub fn refused(number: u8, place: usize) -> Ruling
+pub(crate) fn refused(number: u8, place: usize) -> Ruling
     ensures { λ r. ⌜ rulingSays r ≡ refused number place ⌝ }
 {
     Ruling::Refused(Refusal {

@@ -54,7 +54,7 @@ fn cell_at(cells: &[u32], i: usize) -> usize
 }
 
 // Is the name among those that the first `used` cells hold?
-pub fn is_visible(model: &[u8], cells: &[u32], used: usize, name: &[u8]) -> bool
+pub(crate) fn is_visible(model: &[u8], cells: &[u32], used: usize, name: &[u8]) -> bool
     ensures { λ r. ⌜ r ≡ visible (now (name .entry)) (scopeIn (now (model .entry)) (now (cells .entry)) used) ⌝ }
 {
     let mut i = used;
@@ -68,7 +68,7 @@ pub fn is_visible(model: &[u8], cells: &[u32], used: usize, name: &[u8]) -> bool
 }
 
 // The caller's cells may hold anything at first.
-pub fn clear(cells: &mut [u32])
+pub(crate) fn clear(cells: &mut [u32])
     ensures { λ _. ⌜ now (cells .exit) ≡ replicate (length (now (cells .entry))) 0 ⌝ }
 {
     let mut i = 0;
@@ -87,7 +87,7 @@ fn larger(a: usize, b: usize) -> usize
     a
 }
 
-pub fn stopped(number: u8, place: usize) -> Step
+pub(crate) fn stopped(number: u8, place: usize) -> Step
     ensures answer { λ r. ⌜ ((model : Bytes) (cells : List ℕ) → stepSays model cells r ≡ refused number place) ⌝ }
     ensures grown { λ r. ⌜ ((p : Progress) → grows p r) ⌝ }
 {
@@ -98,7 +98,7 @@ pub fn stopped(number: u8, place: usize) -> Step
 }
 
 // A new name, that of the field at `place`: 23, 40, "and is visible from then on".
-pub fn define(model: &[u8], cells: &mut [u32], p: Progress, place: usize) -> Step
+pub(crate) fn define(model: &[u8], cells: &mut [u32], p: Progress, place: usize) -> Step
     requires { ⌜ place < 2 ^ 32 ⌝ }
     ensures answer { λ r. ⌜ stepSays (now (model .entry)) (now (cells .exit)) r ≡ define (fills (length (now (cells .entry)))) (walkIn (now (model .entry)) (now (cells .entry)) p) (nameAt (now (model .entry)) place) ⌝ }
     ensures grown { λ r. ⌜ grows p r ⌝ }

@@ -24,7 +24,7 @@ use wire::Sought;
 // "A signed value is the 64-bit two's complement reading."
 const LEAST_NEGATIVE: u64 = 0x8000_0000_0000_0000;
 
-pub fn is_element(code: u64) -> bool
+pub(crate) fn is_element(code: u64) -> bool
     ensures { λ r. ⌜ r ≡ isElement code ⌝ }
 {
     if code < 1 {
@@ -86,7 +86,7 @@ fn tensor_type(model: &[u8], t: Field) -> Ruling
 }
 
 // "24 the type's, if there is one": the type that a ValueInfo declares, which must be a tensor's.
-pub fn declared_type(model: &[u8], v: Field) -> Ruling
+pub(crate) fn declared_type(model: &[u8], v: Field) -> Ruling
     ensures { λ r. ⌜ rulingSays r ≡ declaredType (now (model .entry)) (message (now (model .entry)) v) ⌝ }
 {
     let Sought::Found(declared, _) = v.first_of(model, VALUE_INFO_TYPE) else {
@@ -99,7 +99,7 @@ pub fn declared_type(model: &[u8], v: Field) -> Ruling
 }
 
 // "in the main graph then its type"
-pub fn main_type(model: &[u8], main: bool, v: Field) -> Ruling
+pub(crate) fn main_type(model: &[u8], main: bool, v: Field) -> Ruling
     ensures { λ r. ⌜ ((k : Context) → k .main ≡ main → rulingSays r ≡ inMain k (declaredType (now (model .entry)) (message (now (model .entry)) v))) ⌝ }
 {
     if main {
