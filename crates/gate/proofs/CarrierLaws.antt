@@ -13,12 +13,12 @@ use Rattle.wire.specs.declared.Field.{Field}
 use Rattle.wire.specs.declared.Cursor.{Cursor}
 use Rattle.wire.specs.declared.FieldAnswer.{FieldAnswer}
 use Rattle.wire.specs.declared.FieldAnswer.the-variants as field-answer
-use Rattle.wire.specs.Lists.{isEmpty, first, keep, contains, lookup}
+use Rattle.wire.specs.Lists.{isEmpty, present, keep, contains, lookup}
 use Rattle.wire.specs.Bytes.{Bytes}
 use Rattle.wire.specs.Wire.{field, fields}
 use Rattle.wire.specs.Message.{Message, allOf, firstOf, numberOf, message}
 use Rattle.wire.specs.Answers.{fieldSays, withCursor}
-use Rattle.wire.proofs.Lists.{true-T, T-false, subset, contains-subset, NoneOf, none-contained}
+use Rattle.wire.proofs.Lists.{no-first, true-T, T-false, subset, contains-subset, NoneOf, none-contained}
 use Rattle.wire.proofs.CursorLaws.{answer-read, answer-refused}
 use Rattle.wire.proofs.Reading.{Fits, field-tells}
 use Rattle.wire.proofs.Fields.{fields-done, fields-step, fields-stop}
@@ -30,12 +30,11 @@ use Rattle.gate.specs.Node.{carriers, carrierNumbers, needed, foreign, b
 pub contained-none : (n : ℕ) (l m : List ℕ) → T (subset l m) → NoneOf n m → false ≡ contains n l
 contained-none n l m s h = sym (T-false (contains n l) (not-T (contains n l) (λ t. none-contained n m h (contains-subset l m n s t))))
 
-unfoldable pub types : List (ℕ × ℕ) → List ℕ
-types [] = []
-types (e ∷ more) = e .0 ∷ types more
+abbrev pub types : List (ℕ × ℕ) → List ℕ
+types l = map (λ e. e .0) l
 
 lookup-none : (n : ℕ) (l : List (ℕ × ℕ)) → false ≡ contains n (types l) → none ≡ lookup n l
-unfolding types contains lookup
+unfolding contains lookup
 lookup-none n [] h = refl
 lookup-none n (e ∷ l) h = go (eqb n (e .0)) refl h (lookup-none n l)
   where
@@ -193,20 +192,6 @@ nonzero n (c ∷ l) h e = go (eqb n (c .0)) (eqb 0 (c .1)) refl h e (nonzero n l
     go false false i k x ih = ih k x
     go true false i k x ih = true≢false (sym (eq-eqb 0 (c .1) (sym (some-same (c .1) 0 x))) ∙ i)
 
-abbrev Missing : Option Field → Type 0
-Missing none = Unit {0}
-Missing (some f) = ⊥
-
-empty-first : (l : List Field) → none ≡ first l → isEmpty l ≡ true
-unfolding first isEmpty
-empty-first [] e = refl
-empty-first (f ∷ l) e = absurd (subst Missing e tt)
-
-some-first : (l : List Field) {g : Field} → some g ≡ first l → isEmpty l ≡ false
-unfolding first isEmpty
-some-first [] e = absurd (subst Missing (sym e) tt)
-some-first (f ∷ l) e = refl
-
 zero-free : contains 0 (map (λ c. c .1) carriers) ≡ false
 unfolding contains carriers
 zero-free = refl
@@ -252,9 +237,9 @@ module _ (model : Bytes) (a : Field) {kind : ℕ} (k : kind ≡ numberOf Attribu
           held {i} g = sym (ap (λ (x : Bool). x || (n && i)) t ∙ ap (λ (x : Bool). x && i) u) ∙ valued e f (sym g)
 
           pub value-lacks : none ≡ firstOf mine (message model a) → true ≡ badValue (numberOf Attribute·type (message model a)) (message model a)
-          unfolding firstOf
-          value-lacks g = held (empty-first (allOf mine (message model a)) g)
+          unfolding firstOf present
+          value-lacks g = held (no-first (allOf mine (message model a)) ∙ ap (λ (o : Option Field). not (present o)) (sym g))
 
           pub value-has : {x : Field} → some x ≡ firstOf mine (message model a) → false ≡ badValue (numberOf Attribute·type (message model a)) (message model a)
-          unfolding firstOf
-          value-has g = held (some-first (allOf mine (message model a)) g)
+          unfolding firstOf present
+          value-has g = held (no-first (allOf mine (message model a)) ∙ ap (λ (o : Option Field). not (present o)) (sym g))

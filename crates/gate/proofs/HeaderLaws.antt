@@ -1,18 +1,19 @@
 -- The rules of the header in the order of the code's tests.
 use Prim.Native.Nat.{ℕ, _≤_, _<_}
-use mathlib.Core.Path.{_≡_, refl, sym, ap, _∙_}
+use mathlib.Core.Path.{_≡_, sym, ap, _∙_}
 use mathlib.Core.Bool.{Bool, true, false, not}
-use mathlib.Core.List.{List, [], _∷_}
+use mathlib.Core.List.{List, []}
 use mathlib.Core.Option.{Option, none, some}
 use lib.Dec.{leb}
 use borrow.Author.Tests.{le-leb, lt-leb}
 use Rattle.wire.specs.Outcome.{pass, _>>=_, _>>_, each, Judged, Rule, refused, refuse_at:_when:_}
-use Rattle.wire.specs.Lists.{isEmpty, first, present, within}
+use Rattle.wire.specs.Lists.{isEmpty, present, within}
 use Rattle.wire.specs.Bytes.{Bytes, member}
 use Rattle.wire.specs.Message.{allOf, firstOf, numberOf, placeOf, message, whole}
 use Rattle.wire.specs.declared.Refusal.{Refusal}
 use Rattle.wire.specs.declared.Field.{Field}
 use Rattle.wire.specs.declared.Sought.the-variants as sought
+use Rattle.wire.proofs.Lists.{no-first}
 use Rattle.wire.proofs.Passing.{pass-same, passed-bind, passed-seq}
 use Rattle.wire.proofs.Refusing.{when-broken, when-kept}
 use Rattle.schema.specs.Numbers.{Model·ir-version, Model·graph, Model·opset-import, Model·functions}
@@ -44,11 +45,6 @@ module _ {o : Option Field} where
   pub has-some : {f : Field} → some f ≡ o → true ≡ present o
   unfolding present
   has-some e = ap present e
-
-no-first : {A : Type 0} (l : List A) → isEmpty l ≡ not (present (first l))
-unfolding isEmpty first present
-no-first [] = refl
-no-first (a ∷ l) = refl
 
 module _ (model list : Bytes) {m : Field} (em : m ≡ whole model) {n : ℕ} (en : n ≡ numberOf Model·ir-version (message model m)) {b : Bool} (eb : b ≡ within 4 10 n) where
   abbrev Answer : Rule

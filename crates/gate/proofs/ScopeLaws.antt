@@ -25,9 +25,8 @@ use Rattle.wire.proofs.Again.{field-again}
 use Rattle.gate.specs.Names.{Name, nameIn}
 use Rattle.gate.specs.Walk.{Walk, withName, visible, define}
 use Rattle.gate.specs.Verdict.{fills}
-use Rattle.gate.specs.Scope.{nameAt, scopeIn, walkIn, stepSays, grows, Keeps}
+use Rattle.gate.specs.Scope.{nameAt, scopeIn, walkIn, stepSays, Keeps}
 use Rattle.gate.specs.declared.scopes.Progress.{Progress}
-use Rattle.gate.specs.declared.scopes.Step.{Step}
 use Rattle.gate.specs.declared.scopes.Step.the-variants as step
 
 -- ---- clearing: the first `i` cells are cleared
@@ -164,11 +163,6 @@ keeps-fewer {used} {n} {a} {b} h k = record {
 
 pub keeps-then : {used : ℕ} {a b d : List ℕ} → Keeps used a b → Keeps used b d → Keeps used a d
 keeps-then k l = record { size = l .size ∙ k .size; below = l .below ∙ k .below }
-
-pub grown-on : (p q : Progress) (r : Step) → p .used ≤ q .used → grows q r → grows p r
-unfolding grows
-grown-on p q (step.Went s) h k = omega arith
-grown-on p q (step.Refused x) h k = tt
 
 pub name-again : (model : Bytes) (end pos : ℕ) (f : Field) → end ≤ length model → field model end pos ≡ pass f → f .place ≡ pos → nameAt model pos ≡ nameIn model f
 unfolding nameAt nameIn

@@ -11,7 +11,6 @@ use Rattle.wire.specs.Lists.{first, keep}
 use Rattle.wire.specs.Bytes.{Bytes}
 use Rattle.wire.specs.Wire.{field, fieldsFrom, fields}
 use Rattle.wire.specs.Message.{allOf, message}
-use Rattle.wire.specs.Order.{Ordered}
 use Rattle.wire.specs.Answers.{soughtSays, after, soughtIn}
 use Rattle.wire.specs.declared.Refusal.{Refusal}
 use Rattle.wire.specs.declared.Field.{Field}
@@ -20,7 +19,7 @@ use Rattle.wire.specs.declared.Sought.{Sought}
 use Rattle.wire.specs.declared.Sought.the-variants as sought
 use Rattle.wire.proofs.Tells.{Tells}
 use Rattle.wire.proofs.Reading.{Fits, AtTag, field-tells, field-placed}
-use Rattle.wire.proofs.Fields.{fields-bound, fields-ordered, keep-ordered}
+use Rattle.wire.proofs.Fields.{fields-bound}
 use Rattle.wire.proofs.CursorLaws.{says}
 
 module _ (s : Bytes) (number end : ℕ) where
@@ -63,10 +62,6 @@ module _ (s : Bytes) (number end : ℕ) where
   after-first : (pos : ℕ) → After? pos (allFrom pos)
   unfolding allFrom fields
   after-first pos = after-kept (end - pos) pos (omega arith)
-
-  pub all-ordered : (pos : ℕ) → Ordered pos end (allFrom pos)
-  unfolding allFrom
-  all-ordered pos = keep-ordered (λ f. eqb number (f .number)) pos end (fields s end pos) (fields-ordered s end pos)
 
   -- what a search tells of the list that it searched
   Told : List Field → Option (Field × Cursor) → Type 0

@@ -6,7 +6,7 @@ use mathlib.Core.Bool.{Bool, true, false, not, _&&_, _||_}
 use mathlib.Core.List.{List, [], _∷_, _++_, map, flatMap, append-assoc, List·Memᴰ, List·Memᴰ·head, List·Memᴰ·tail, List·Memᴰ·not-nil, List·Memᴰ·cases-cons}
 use mathlib.Core.Option.{Option, none, some}
 use lib.Dec.{T, eqb, eqb→eq}
-use Rattle.wire.specs.Lists.{first, keep, contains}
+use Rattle.wire.specs.Lists.{isEmpty, first, present, keep, contains}
 
 pub T-true : (b : Bool) → T b → b ≡ true
 T-true true t = refl
@@ -167,3 +167,9 @@ none-contained n (m ∷ more) h t = go (or-cases (eqb n m) (contains n more) t) 
     go : T (eqb n m) ⊎ T (contains n more) → (T (contains n more) → ⊥) → ⊥
     go (inl q) ih = h .1 (eqb→eq n m q)
     go (inr q) ih = ih q
+
+-- a list is empty where it has no first element
+pub no-first : {A : Type 0} (l : List A) → isEmpty l ≡ not (present (first l))
+unfolding isEmpty first present
+no-first [] = refl
+no-first (a ∷ l) = refl

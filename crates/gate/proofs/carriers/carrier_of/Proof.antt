@@ -2,12 +2,12 @@ use mathlib.Core.List.{[], _∷_}
 use Rattle.wire.specs.Lists.{contains, lookup}
 use Rattle.wire.proofs.Lists.{subset}
 use Rattle.gate.specs.Node.{carriers}
-use Rattle.gate.proofs.CarrierLaws.{types, carrier-at, carrier-none}
+use Rattle.gate.proofs.CarrierLaws.{carrier-at, carrier-none}
 use Rattle.gate.proofs.carriers.carrier_of.Statement.{statement}
 use Rattle.gate.proofs.carriers.carrier_of.Tie as tie
 
 pub carrier-of-spec : {M : Type 1} → statement M
-unfolding contains lookup subset carriers types
+unfolding contains lookup subset carriers
 carrier-of-spec =
     tie.close
     (tie.spec
