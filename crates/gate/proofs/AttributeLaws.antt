@@ -13,9 +13,9 @@ use Rattle.wire.proofs.CursorLaws.{says}
 use Rattle.wire.proofs.Refusing.{when-broken, when-kept, broken, kept}
 use Rattle.schema.specs.Numbers.{Attribute·name, Attribute·type, Attribute·ref-attr-name}
 use Rattle.schema.specs.Answers.{silent}
-use Rattle.gate.specs.Names.{Name, nameIn, bodiesOf}
-use Rattle.gate.specs.Walk.{Walk, start, Along, leaving, naming}
-use Rattle.gate.specs.Node.{badValue, body, attribute}
+use Rattle.rules.specs.Names.{Name, nameIn, bodiesOf}
+use Rattle.rules.specs.Walk.{Walk, start, Along, leaving, naming}
+use Rattle.rules.specs.Node.{badValue, body, attribute}
 use Rattle.gate.specs.Earlier.{passing, after}
 use Rattle.gate.specs.Answers.{namingSays}
 use Rattle.gate.specs.declared.names.Naming.{Naming}

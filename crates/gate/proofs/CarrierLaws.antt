@@ -23,7 +23,7 @@ use Rattle.wire.proofs.CursorLaws.{answer-read, answer-refused}
 use Rattle.wire.proofs.Reading.{Fits, field-tells}
 use Rattle.wire.proofs.Fields.{fields-done, fields-step, fields-stop}
 use Rattle.schema.specs.Numbers.{Attribute·type}
-use Rattle.gate.specs.Node.{carriers, carrierNumbers, needed, foreign, badValue}
+use Rattle.rules.specs.Node.{carriers, carrierNumbers, needed, foreign, badValue}
 
 -- ---- numbers that no arm of a `match` has
 

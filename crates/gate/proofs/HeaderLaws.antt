@@ -18,7 +18,7 @@ use Rattle.wire.proofs.Passing.{pass-same, passed-bind, passed-seq}
 use Rattle.wire.proofs.Refusing.{when-broken, when-kept}
 use Rattle.schema.specs.Numbers.{Model·ir-version, Model·graph, Model·opset-import, Model·functions}
 use Rattle.schema.specs.Answers.{silent}
-use Rattle.gate.specs.Header.{opsetImport, header}
+use Rattle.rules.specs.Header.{opsetImport, header}
 use Rattle.gate.specs.Imports.{importsIn}
 use Rattle.gate.specs.Answers.{rulingSays}
 use Rattle.gate.specs.declared.Ruling.{Ruling}

@@ -23,7 +23,7 @@ use Rattle.wire.proofs.Along.{allFrom, Onward, all-none, all-some}
 use Rattle.operators.specs.Operators.{domain, allows}
 use Rattle.schema.specs.Numbers.{Model·opset-import, OperatorSetId·domain, OperatorSetId·version}
 use Rattle.schema.specs.Answers.{silent}
-use Rattle.gate.specs.Header.{opsetImport}
+use Rattle.rules.specs.Header.{opsetImport}
 use Rattle.gate.specs.Earlier.{before}
 use Rattle.gate.specs.Imports.{importOf, importsIn, importsBefore}
 use Rattle.gate.proofs.EarlierLaws.{before-split, before-all, Rereading}
@@ -32,7 +32,7 @@ use Rattle.gate.specs.declared.Ruling.{Ruling}
 use Rattle.gate.specs.declared.Ruling.the-variants as ruling
 use Rattle.gate.proofs.Silent.{silent-fails, silent-passes}
 use Rattle.gate.proofs.RulingLaws.{ruled-kept, ruled-refused}
-use Rattle.gate.proofs.Matching.{each-append}
+use Rattle.rules.proofs.Matching.{each-append}
 
 -- ---- the imports of a model
 

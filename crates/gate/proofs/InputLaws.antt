@@ -12,10 +12,10 @@ use Rattle.wire.specs.Bytes.{Bytes}
 use Rattle.wire.specs.Message.{message}
 use Rattle.wire.proofs.CursorLaws.{says}
 use Rattle.schema.specs.Numbers.{ValueInfo·name}
-use Rattle.gate.specs.Names.{Name, nameIn}
-use Rattle.gate.specs.Walk.{Context, inMain, Walk, naming, define}
-use Rattle.gate.specs.Types.{declaredType}
-use Rattle.gate.specs.Graph.{input}
+use Rattle.rules.specs.Names.{Name, nameIn}
+use Rattle.rules.specs.Walk.{Context, inMain, Walk, naming, define}
+use Rattle.rules.specs.Types.{declaredType}
+use Rattle.rules.specs.Graph.{input}
 use Rattle.gate.specs.Scope.{nameAt, walkIn, stepSays}
 use Rattle.gate.specs.Answers.{rulingSays, namingSays}
 use Rattle.gate.specs.declared.names.Naming.{Naming}

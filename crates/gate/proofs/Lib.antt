@@ -1,4 +1,3 @@
-pub mod IdentifierLaws
 pub mod Silent
 pub mod RulingLaws
 pub mod TypeLaws
@@ -14,18 +13,3 @@ pub mod StepLaws
 pub mod OutputLaws
 pub mod InputLaws
 pub mod HeaderLaws
-pub mod Rules
-pub mod Matching
-pub mod Visits
-pub mod Defaults
-pub mod Lockstep
-pub mod Choices
-pub mod Scripts
-pub mod Traces
-pub mod Bounds
-pub mod Depth
-pub mod Cells
-pub mod Counting
-pub mod Proper
-pub mod Shared
-pub mod Demands

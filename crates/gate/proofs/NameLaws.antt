@@ -16,10 +16,10 @@ use Rattle.wire.proofs.Passing.{fail-no-pass, pass-same, passed-seq}
 use Rattle.wire.proofs.MessageLaws.{first-read, first-placed}
 use Rattle.wire.proofs.Refusing.{when-broken, when-kept, broken, kept}
 use Rattle.schema.specs.Answers.{silent}
-use Rattle.gate.specs.Identifier.{identifier}
-use Rattle.gate.specs.Names.{Name, nameOf, nameIn}
-use Rattle.gate.specs.Walk.{visible, naming}
-use Rattle.gate.specs.Node.{nodeInput}
+use Rattle.rules.specs.Identifier.{identifier}
+use Rattle.rules.specs.Names.{Name, nameOf, nameIn}
+use Rattle.rules.specs.Walk.{visible, naming}
+use Rattle.rules.specs.Node.{nodeInput}
 use Rattle.gate.specs.Answers.{namingSays}
 use Rattle.gate.specs.declared.names.Naming.{Naming}
 use Rattle.gate.specs.declared.names.Naming.the-variants as naming-answer

@@ -13,8 +13,8 @@ use Rattle.wire.specs.Message.{firstOf, placeOf, text, bytesOf, message}
 use Rattle.wire.proofs.Refusing.{when-broken, when-kept, broken, kept}
 use Rattle.schema.specs.Numbers.{Node·name}
 use Rattle.schema.specs.Answers.{silent}
-use Rattle.gate.specs.Identifier.{identifier}
-use Rattle.gate.specs.Node.{nodeName}
+use Rattle.rules.specs.Identifier.{identifier}
+use Rattle.rules.specs.Node.{nodeName}
 use Rattle.gate.proofs.NameLaws.{empty-none, empty-some}
 use Rattle.gate.proofs.Silent.{silent-rule, silent-last}
 

@@ -13,12 +13,12 @@ use Rattle.wire.specs.Message.{text, message}
 use Rattle.wire.proofs.Refusing.{when-broken, when-kept}
 use Rattle.wire.proofs.CursorLaws.{says}
 use Rattle.schema.specs.Numbers.{ValueInfo·name}
-use Rattle.gate.specs.Identifier.{identifier}
-use Rattle.gate.specs.Names.{Name, nameIn}
-use Rattle.gate.specs.Walk.{Context, inMain, Walk, visible, naming, define}
-use Rattle.gate.specs.Types.{declaredType}
-use Rattle.gate.specs.Node.{nodeOutput}
-use Rattle.gate.specs.Graph.{output}
+use Rattle.rules.specs.Identifier.{identifier}
+use Rattle.rules.specs.Names.{Name, nameIn}
+use Rattle.rules.specs.Walk.{Context, inMain, Walk, visible, naming, define}
+use Rattle.rules.specs.Types.{declaredType}
+use Rattle.rules.specs.Node.{nodeOutput}
+use Rattle.rules.specs.Graph.{output}
 use Rattle.gate.specs.Scope.{nameAt}
 use Rattle.gate.specs.Answers.{namingSays}
 use Rattle.gate.specs.declared.names.Naming.{Naming}

@@ -22,9 +22,9 @@ use Rattle.wire.specs.declared.FieldAnswer.{FieldAnswer}
 use Rattle.wire.specs.declared.FieldAnswer.the-variants as field-answer
 use Rattle.wire.proofs.CursorLaws.{answer-read, answer-refused}
 use Rattle.wire.proofs.Again.{field-again}
-use Rattle.gate.specs.Names.{Name, nameIn}
-use Rattle.gate.specs.Walk.{Walk, withName, visible, define}
-use Rattle.gate.specs.Verdict.{fills}
+use Rattle.rules.specs.Names.{Name, nameIn}
+use Rattle.rules.specs.Walk.{Walk, withName, visible, define}
+use Rattle.rules.specs.Verdict.{fills}
 use Rattle.gate.specs.Scope.{nameAt, scopeIn, walkIn, stepSays, Keeps}
 use Rattle.gate.specs.declared.scopes.Progress.{Progress}
 use Rattle.gate.specs.declared.scopes.Step.the-variants as step

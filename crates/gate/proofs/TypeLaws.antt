@@ -13,9 +13,9 @@ use Rattle.wire.specs.Bytes.{Bytes}
 use Rattle.wire.specs.Message.{allOf, firstOf, numberOf, placeOf, text, bytesOf, message}
 use Rattle.wire.proofs.Refusing.{when-broken, when-kept, broken, kept}
 use Rattle.schema.specs.Numbers.{ValueInfo·type, TypeProto·tensor, TensorType·elem-type, TensorType·shape, Shape·dim, Dimension·dim-value, Dimension·dim-param}
-use Rattle.gate.specs.Identifier.{identifier}
-use Rattle.gate.specs.Walk.{Context, inMain}
-use Rattle.gate.specs.Types.{negative, isElement, dim, tensorType, declaredType}
+use Rattle.rules.specs.Identifier.{identifier}
+use Rattle.rules.specs.Walk.{Context, inMain}
+use Rattle.rules.specs.Types.{negative, isElement, dim, tensorType, declaredType}
 
 pub element-below : (n : ℕ) → n < 1 → false ≡ isElement n
 unfolding isElement within

@@ -1,7 +1,7 @@
 -- What each answer of the code says.
 use Rattle.wire.specs.Outcome.{pass, fail, Judged, Rule}
 use Rattle.wire.specs.Bytes.{Bytes}
-use Rattle.gate.specs.Names.{Name, nameIn}
+use Rattle.rules.specs.Names.{Name, nameIn}
 use Rattle.gate.specs.declared.Ruling.{Ruling}
 use Rattle.gate.specs.declared.Ruling.the-variants as ruling
 use Rattle.gate.specs.declared.names.Naming.{Naming}

@@ -8,7 +8,7 @@ use Rattle.wire.specs.Outcome.{pass}
 use Rattle.wire.specs.declared.Field.{Field}
 use Rattle.wire.specs.Bytes.{Bytes}
 use Rattle.wire.specs.Message.{bytesOf, message}
-use Rattle.gate.specs.Walk.{GraphJudge, start, Along}
+use Rattle.rules.specs.Walk.{GraphJudge, start, Along}
 
 -- Those of the fields that stand before a place, where they are in wire order.
 unfoldable pub before : (place : ℕ) → List Field → List Field

@@ -8,8 +8,8 @@ use Rattle.wire.specs.Outcome.{pass, fail, Judged}
 use Rattle.wire.specs.Bytes.{Bytes}
 use Rattle.wire.specs.Wire.{field}
 use Rattle.wire.specs.Message.{text}
-use Rattle.gate.specs.Names.{Name}
-use Rattle.gate.specs.Walk.{Walk}
+use Rattle.rules.specs.Names.{Name}
+use Rattle.rules.specs.Walk.{Walk}
 use Rattle.gate.specs.declared.scopes.Progress.{Progress}
 use Rattle.gate.specs.declared.scopes.Step.{Step}
 use Rattle.gate.specs.declared.scopes.Step.the-variants as step

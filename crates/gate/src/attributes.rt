@@ -3,7 +3,7 @@ ghost use mathlib.Core.Path.{_≡_};
 ghost use Rattle.wire.specs.Message.{allOf, message};
 ghost use Rattle.schema.specs.Numbers.{Node·attribute, Attribute·name};
 ghost use Rattle.schema.specs.Answers.{silent};
-ghost use Rattle.gate.specs.Node.{attribute};
+ghost use Rattle.rules.specs.Node.{attribute};
 ghost use Rattle.gate.specs.Earlier.{before, namesIn, passing, after};
 ghost use Rattle.gate.specs.Answers.{rulingSays};
 use crate::Ruling;

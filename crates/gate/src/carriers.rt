@@ -6,7 +6,7 @@ ghost use lib.Dec.{eqb};
 ghost use Rattle.wire.specs.Lists.{contains, lookup};
 ghost use Rattle.wire.specs.Message.{numberOf, message};
 ghost use Rattle.schema.specs.Numbers.{Attribute·type};
-ghost use Rattle.gate.specs.Node.{carriers, carrierNumbers, needed, foreign, badValue};
+ghost use Rattle.rules.specs.Node.{carriers, carrierNumbers, needed, foreign, badValue};
 use crate::numbers::ATTRIBUTE_TYPE;
 use wire::Cursor;
 use wire::Field;

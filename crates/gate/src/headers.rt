@@ -8,7 +8,7 @@ ghost use Rattle.wire.specs.Message.{allOf, firstOf, message, whole};
 ghost use Rattle.operators.specs.Operators.{domain};
 ghost use Rattle.schema.specs.Numbers.{Model·opset-import};
 ghost use Rattle.schema.specs.Answers.{silent};
-ghost use Rattle.gate.specs.Header.{opsetImport, header};
+ghost use Rattle.rules.specs.Header.{opsetImport, header};
 ghost use Rattle.gate.specs.Imports.{importsIn, importsBefore};
 ghost use Rattle.gate.specs.Answers.{rulingSays};
 use crate::Ruling;

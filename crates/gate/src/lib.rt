@@ -3,7 +3,6 @@ mod attributes;
 mod carriers;
 mod earlier;
 mod headers;
-mod identifiers;
 mod inputs;
 mod names;
 mod nodes;

@@ -1,7 +1,7 @@
 use mathlib.Core.List.{[], _∷_}
 use Rattle.wire.specs.Lists.{contains, lookup}
 use Rattle.wire.proofs.Lists.{subset}
-use Rattle.gate.specs.Node.{carriers}
+use Rattle.rules.specs.Node.{carriers}
 use Rattle.gate.proofs.CarrierLaws.{carrier-at, carrier-none}
 use Rattle.gate.proofs.carriers.carrier_of.Statement.{statement}
 use Rattle.gate.proofs.carriers.carrier_of.Tie as tie

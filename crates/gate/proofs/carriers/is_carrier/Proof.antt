@@ -1,7 +1,7 @@
 use mathlib.Core.List.{[], _∷_}
 use Rattle.wire.specs.Lists.{contains}
 use Rattle.wire.proofs.Lists.{subset}
-use Rattle.gate.specs.Node.{carriers, carrierNumbers}
+use Rattle.rules.specs.Node.{carriers, carrierNumbers}
 use Rattle.gate.proofs.CarrierLaws.{contains-at, contained-none}
 use Rattle.gate.proofs.carriers.is_carrier.Statement.{statement}
 use Rattle.gate.proofs.carriers.is_carrier.Tie as tie

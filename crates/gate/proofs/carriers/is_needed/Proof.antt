@@ -1,7 +1,7 @@
 use mathlib.Core.List.{[], _∷_}
 use Rattle.wire.specs.Lists.{contains}
 use Rattle.wire.proofs.Lists.{subset}
-use Rattle.gate.specs.Node.{needed}
+use Rattle.rules.specs.Node.{needed}
 use Rattle.gate.proofs.CarrierLaws.{contains-at, contained-none}
 use Rattle.gate.proofs.carriers.is_needed.Statement.{statement}
 use Rattle.gate.proofs.carriers.is_needed.Tie as tie

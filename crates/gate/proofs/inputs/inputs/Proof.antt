@@ -5,8 +5,8 @@ use lib.ListN.{length}
 use Rattle.wire.specs.Outcome.{each}
 use Rattle.wire.proofs.Along.{allFrom, along-start, along-all}
 use Rattle.schema.specs.Numbers.{Graph·input}
-use Rattle.gate.specs.Verdict.{fills}
-use Rattle.gate.specs.Graph.{input}
+use Rattle.rules.specs.Verdict.{fills}
+use Rattle.rules.specs.Graph.{input}
 use Rattle.gate.specs.Scope.{walkIn}
 use Rattle.gate.proofs.InputLaws.{plain, inputs-any}
 use Rattle.gate.proofs.StepLaws.{Adding, adding-start, adding-done, adding-falls, adding-inside, adding-stops, adding-goes}

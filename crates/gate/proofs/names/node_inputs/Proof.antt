@@ -1,4 +1,4 @@
-use Rattle.gate.specs.Node.{nodeInput}
+use Rattle.rules.specs.Node.{nodeInput}
 use Rattle.gate.specs.Scope.{scopeIn}
 use Prim.Native.Nat.{_-_}
 use mathlib.Core.Path.{sym, _∙_}

@@ -3,7 +3,7 @@ use mathlib.Core.Path.{refl, sym, _∙_}
 use Rattle.wire.specs.Outcome.{each}
 use Rattle.wire.proofs.Along.{allFrom, Along, along-start, along-all, along-done, along-falls}
 use Rattle.schema.specs.Numbers.{Graph·output}
-use Rattle.gate.specs.Graph.{output}
+use Rattle.rules.specs.Graph.{output}
 use Rattle.gate.specs.Scope.{scopeIn}
 use Rattle.gate.specs.Answers.{rulingSays}
 use Rattle.gate.proofs.RulingLaws.{rule-stops, rule-goes}

@@ -4,8 +4,8 @@ use lib.ListN.{length}
 use Rattle.wire.specs.Outcome.{each}
 use Rattle.wire.proofs.Along.{allFrom, along-start, along-all}
 use Rattle.schema.specs.Numbers.{Node·output}
-use Rattle.gate.specs.Verdict.{fills}
-use Rattle.gate.specs.Node.{nodeOutput}
+use Rattle.rules.specs.Verdict.{fills}
+use Rattle.rules.specs.Node.{nodeOutput}
 use Rattle.gate.specs.Scope.{walkIn}
 use Rattle.gate.proofs.StepLaws.{Adding, adding-start, adding-done, adding-falls, adding-placed, adding-named, adding-stops, adding-goes}
 use borrow.Author.Needs.{needs}

@@ -1,6 +1,6 @@
 use mathlib.Core.Path.{_∙_, ap}
 use Rattle.wire.proofs.MessageLaws.{missing, found}
-use Rattle.gate.specs.Identifier.{identifier}
+use Rattle.rules.specs.Identifier.{identifier}
 use Rattle.gate.specs.Answers.{rulingSays}
 use Rattle.gate.proofs.TypeLaws.{dim-negative, dim-nameless, dim-named, dim-misnamed}
 use borrow.Author.Needs.{needs}

@@ -3,7 +3,7 @@ use mathlib.Core.Path.{sym, _∙_}
 use Rattle.wire.specs.Outcome.{each}
 use Rattle.wire.proofs.Along.{allFrom, Along, along-start, along-all, along-done, along-falls}
 use Rattle.schema.specs.Numbers.{Shape·dim}
-use Rattle.gate.specs.Types.{dim}
+use Rattle.rules.specs.Types.{dim}
 use Rattle.gate.specs.Answers.{rulingSays}
 use Rattle.gate.proofs.RulingLaws.{rule-stops, rule-goes}
 use borrow.Author.Needs.{needs}

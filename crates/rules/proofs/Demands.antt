@@ -1,0 +1,129 @@
+-- The demands, from their parts: Lockstep and Matching (judge beside runner), Choices, Traces, Bounds, Depth, Counting.
+use Prim.Native.Nat.{ℕ, _+_}
+use native.Mathlib.Omega.{arith}
+use mathlib.Core.Path.{_≡_, refl, sym, ap, _∙_}
+use mathlib.Core.Bool.{Bool, true, not}
+use mathlib.Core.List.{List, [], List·Memᴰ·not-nil}
+use mathlib.Core.Option.{Option, none, some}
+use lib.ListN.{length}
+use lib.Dec.{ltb}
+use Rattle.wire.specs.Outcome.{pass, refused, refuse_at:_when:_}
+use Rattle.wire.specs.declared.Field.{Field}
+use Rattle.wire.specs.Lists.{contains}
+use Rattle.wire.specs.Bytes.{Bytes}
+use Rattle.wire.specs.Message.{firstOf, message, whole}
+use Rattle.wire.proofs.Tells.{Any, any-all}
+use Rattle.wire.proofs.Passing.{pass-same, passed-bind, passed-seq, passed-tells}
+use Rattle.wire.proofs.Fields.{fields-bound}
+use Rattle.operators.specs.Operators.{sound}
+use Rattle.operators.proofs.Entries.{entries-bound}
+use Rattle.schema.specs.Numbers.{Model·graph}
+use Rattle.schema.specs.FirstWalk.{firstWalk}
+use Rattle.schema.proofs.Bound.{walk-bound}
+use Rattle.schema.proofs.Refusals.{FirstWalk·refusals, firstWalk-tells}
+use Rattle.rules.specs.Walk.{start}
+use Rattle.rules.specs.Graph.{graph}
+use Rattle.rules.specs.Header.{header, secondWalkTo, secondWalk}
+use Rattle.rules.specs.Verdict.{LARGEST, Counts, counts, fills, verdict}
+use Rattle.rules.specs.Runner.{Run, begin, runGraph, runTo, run}
+use Rattle.rules.specs.Count.{nodeCount}
+use Rattle.rules.specs.Demands.{Faithful, Demand3, CountsTrue, BoundsNeverDecide}
+use Rattle.rules.proofs.Rules.{Header·refusals, header-tells}
+use Rattle.rules.proofs.Matching.{Matches, Quiet, quiet-among, quiet-rule, quiet-matches, quiet-then, after-matches}
+use Rattle.rules.proofs.Lockstep.{InStep, depths-match}
+use Rattle.rules.proofs.Choices.{Follows, Sub, follows-run}
+use Rattle.rules.proofs.Traces.{functional}
+use Rattle.rules.proofs.Bounds.{run-bound, nodes-bound}
+use Rattle.rules.proofs.Depth.{second-bound}
+use Rattle.rules.proofs.Counting.{second-counts}
+
+pub boundsNeverDecide : BoundsNeverDecide
+boundsNeverDecide = record {
+  of-fields = fields-bound;
+  of-entries = entries-bound;
+  of-first-walk = walk-bound;
+  of-second-walk = second-bound;
+  of-run = run-bound;
+  of-nodes = nodes-bound;
+}
+
+-- ---- the whole judge beside the run that enters every body once
+
+module _ (model list : Bytes) where
+  quiet-header : Quiet (header model list (message model (whole model)))
+  unfolding contains
+  quiet-header = quiet-among Any Any Header·refusals (header model list (message model (whole model))) (tt, tt, tt)
+      (header-tells model Any Any (λ f g. tt) (λ f g. any-all (message model f .fields)) list (message model (whole model)) (tt, any-all (message model (whole model) .fields)))
+
+  quiet-first : Quiet (firstWalk model)
+  unfolding contains
+  quiet-first = quiet-among Any _ FirstWalk·refusals (firstWalk model) (tt, tt, tt) (firstWalk-tells model)
+
+  second-matches : (full : ℕ → Bool) → Matches InStep (secondWalk model list full) (run model [])
+  unfolding secondWalk secondWalkTo runTo start begin
+  second-matches full = rw (← (run-bound model (length model + 8) [] (omega arith)))
+      (quiet-matches InStep (header model list (message model (whole model))) _ _ quiet-header (λ imports. go imports (firstOf Model·graph (message model (whole model)))))
+    where
+      go : (imports : List Bytes) (o : Option Field) → Matches InStep
+          (elim o [ none ↦ refused 11 (message model (whole model) .place) | some g ↦ graph model full 8 (record { imports = imports; main = true }) start g ])
+          (elim o [ none ↦ pass (begin []) | some g ↦ runGraph model (length model + 8) true (begin []) g ])
+      go imports none = tt
+      go imports (some g) = depths-match model full 8 (length model) (record { imports = imports; main = true }) start (begin []) g (refl, refl, refl)
+
+  -- an acceptance counts the names that the run had bound together
+  abbrev Counted : Counts → Run → Type 0
+  Counted c r = c .names ≡ r .most
+
+  verdict-matches : (cells : ℕ) → Matches Counted (verdict model list cells) (run model [])
+  unfolding verdict counts
+  verdict-matches cells =
+      quiet-then Counted (refuse 7 at: _ when: _) _ _ (quiet-rule 7 _ _ refl)
+      (quiet-then Counted (refuse 8 at: _ when: _) _ _ (quiet-rule 8 _ _ refl)
+      (quiet-then Counted (firstWalk model) _ _ quiet-first
+      (after-matches InStep Counted (secondWalk model list (fills cells)) (run model []) _ (second-matches (fills cells)) (λ w r h. (r, refl, h .2)))))
+
+-- ---- demand 3
+
+module _ (model list : Bytes) (cells : ℕ) where
+  -- of an accepted model the run with no choices ends, with the names counted
+  plain : (c : Counts) → verdict model list cells ≡ pass c → (r : Run) × (run model [] ≡ pass r) × (c .names ≡ r .most)
+  plain c e = rw e at (verdict-matches model list cells)
+
+  follows : (choices : List ℕ) (r₀ : Run) → run model [] ≡ pass r₀ → Follows [] [] (pass r₀) (run model choices)
+  follows choices r₀ e = rw e at (follows-run model choices)
+
+  -- every read of every run is one of the run with no choices
+  among-plain : (choices : List ℕ) (r₀ r : Run) → run model [] ≡ pass r₀ → run model choices ≡ pass r → Sub (r .trace) (r₀ .trace)
+  among-plain choices r₀ r e e′ =
+      let m = follows choices r₀ e in
+      let q = m .1 in
+      let same : m .0 ≡ r = cc in
+      rw same at (m .4 (r₀ .trace) (λ x h. h) (λ x h. absurd (List·Memᴰ·not-nil h)))
+
+  faithful : Faithful model list cells
+  faithful = record {
+    ends = λ c e choices. let r₀ = plain c e in let m = follows choices (r₀ .0) (r₀ .1) in (m .0, m .1);
+    agrees = λ c e choices₁ choices₂ r₁ r₂ e₁ e₂ x₁ x₂ m₁ m₂ q.
+        let r₀ = plain c e in
+        functional model (r₀ .0) (r₀ .1) x₁ x₂ (among-plain choices₁ (r₀ .0) r₁ (r₀ .1) e₁ x₁ m₁) (among-plain choices₂ (r₀ .0) r₂ (r₀ .1) e₂ x₂ m₂) q;
+    stops-binding = λ p e. rw e at (verdict-matches model list cells);
+    stops-reading = λ p e. rw e at (verdict-matches model list cells);
+    stops-output = λ p e. rw e at (verdict-matches model list cells);
+  }
+
+pub demand3 : Demand3
+unfolding Demand3
+demand3 model list cells = faithful model list cells
+
+-- ---- the counts
+
+pub countsTrue : CountsTrue
+unfolding CountsTrue verdict counts
+countsTrue model list cells c e =
+    let a = passed-seq (refuse 7 at: 0 when: ltb LARGEST (length model)) _ c e in
+    let b = passed-seq (refuse 8 at: 0 when: not (sound list)) _ c (a .1) in
+    let d = passed-seq (firstWalk model) _ c (b .1) in
+    let w = passed-bind (secondWalk model list (fills cells)) (λ w. pass (counts w)) c (d .1) in
+    let q : counts (w .0) ≡ c = pass-same (counts (w .0)) c (w .2) in
+    let n : w .0 .nodes ≡ nodeCount model = passed-tells (λ w. w .nodes ≡ nodeCount model) Any (secondWalk model list (fills cells)) (w .0) (second-counts model list (fills cells)) (w .1) in
+    (ap (λ (k : Counts). k .nodes) (sym q) ∙ n, plain model list cells c e)

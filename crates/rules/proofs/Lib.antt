@@ -1,0 +1,16 @@
+pub mod IdentifierLaws
+pub mod Rules
+pub mod Matching
+pub mod Visits
+pub mod Defaults
+pub mod Lockstep
+pub mod Choices
+pub mod Scripts
+pub mod Traces
+pub mod Bounds
+pub mod Depth
+pub mod Cells
+pub mod Counting
+pub mod Proper
+pub mod Shared
+pub mod Demands

@@ -1,0 +1,12 @@
+use Rattle.rules.proofs.IdentifierLaws.{digit-below, digit-rest}
+use Rattle.rules.proofs.identifiers.is_digit.Statement.{statement}
+use Rattle.rules.proofs.identifiers.is_digit.Tie as tie
+
+returns : tie.Need-returns
+returns c = digit-below _ (c .if1 .taken)
+
+returns-2 : tie.Need-returns-2
+returns-2 c = digit-rest _ (c .if1 .left)
+
+pub is-digit-spec : {M : Type 1} → statement M
+is-digit-spec = tie.close (tie.spec returns returns-2)

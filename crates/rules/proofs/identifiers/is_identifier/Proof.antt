@@ -1,0 +1,54 @@
+use Prim.Native.Nat.{_-_}
+use native.Mathlib.Omega.{arith}
+use lib.ListN.{length}
+use borrow.Author.Needs.{needs}
+use borrow.Author.Tests.{not-true, not-false}
+use Rattle.rules.proofs.IdentifierLaws.{Spelling, name-empty, spell-not, spell-start, spell-end, spell-other, spell-next}
+use Rattle.rules.proofs.identifiers.is_identifier.Statement.{statement}
+use Rattle.rules.proofs.identifiers.is_identifier.Tie as tie
+
+abbrev Inv-loop : tie.InvT-loop
+Inv-loop name i₀ i = Spelling name i
+
+abbrev μ-loop : tie.MeasureT-loop
+μ-loop name i₀ i = length name - i
+
+returns : tie.Need-returns Inv-loop μ-loop
+returns c = name-empty _ (c .if1 .taken)
+
+shared-slice-read-is-letter : tie.Need-shared-slice-read-is-letter Inv-loop μ-loop
+shared-slice-read-is-letter c = omega (arith, c .before .if1 .left)
+
+returns-2 : tie.Need-returns-2 Inv-loop μ-loop
+returns-2 c = spell-not _ (c .before .before .before .if1 .left) _ (c .before .is-letter .ensures) (not-true _ (c .if2 .taken))
+
+loop-holds : tie.Need-loop-holds Inv-loop μ-loop
+loop-holds c = spell-start _ (c .before .before .before .if1 .left) _ (c .before .is-letter .ensures) (not-false _ (c .if2 .left))
+
+returns-3 : tie.Need-returns-3 Inv-loop μ-loop
+returns-3 c = spell-other (c .before .before .before .before .loop .inv) (c .before .before .before .loop-test .taken) _ (c .before .is-word .ensures) (not-true _ (c .if3 .taken))
+
+loop-again : tie.Need-loop-again Inv-loop μ-loop
+loop-again c = spell-next (c .before .before .before .before .loop .inv) (c .before .before .before .loop-test .taken) _ (c .before .is-word .ensures) (not-false _ (c .if3 .left))
+
+returns-4 : tie.Need-returns-4 Inv-loop μ-loop
+returns-4 c = spell-end (c .before .loop .inv) (c .loop-test .left)
+
+pub is-identifier-spec : {M : Type 1} → statement M
+is-identifier-spec =
+    tie.close
+    (tie.spec
+    Inv-loop
+    μ-loop
+    returns
+    shared-slice-read-is-letter
+    (λ c κs. search needs)
+    returns-2
+    loop-holds
+    (λ c. search needs)
+    (λ c κs. search needs)
+    returns-3
+    (λ c. search needs)
+    (λ c. search needs)
+    loop-again
+    returns-4)

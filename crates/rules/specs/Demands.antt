@@ -1,0 +1,120 @@
+-- What is claimed of the definitions, as types. Each is proved in proofs/ under the name of its type with a small first letter.
+use Prim.Native.Nat.{ℕ, _+_, _-_, _≤_, _<_, min}
+use mathlib.Core.Path.{_≡_}
+use mathlib.Core.Logic.{_↔_, _⊎_}
+use mathlib.Core.Bool.{Bool, true, false}
+use mathlib.Core.List.{List, [], _∷_, _++_, List·Memᴰ}
+use mathlib.Core.Option.{none, some}
+use lib.ListN.{length}
+use lib.Dec.{T}
+use Rattle.wire.specs.Outcome.{pass, fail, refused}
+use Rattle.wire.specs.declared.Refusal.{Refusal}
+use Rattle.wire.specs.declared.Field.{Field}
+use Rattle.wire.specs.Lists.{contains}
+use Rattle.wire.specs.Bytes.{Bytes, byte, same, member}
+use Rattle.wire.specs.Wire.{fieldsFrom, fields}
+use Rattle.wire.specs.Message.{Message, allOf, firstOf, text, message}
+use Rattle.wire.specs.Order.{Ordered}
+use Rattle.operators.specs.Operators.{sound, entriesFrom, entriesAt}
+use Rattle.schema.specs.declared.Kind.{Kind}
+use Rattle.schema.specs.Numbers.{Graph·input, ValueInfo·name, Attribute·g, Attribute·graphs}
+use Rattle.schema.specs.FirstWalk.{walk, walked, firstWalk}
+use Rattle.rules.specs.Names.{Name, bodiesOf, nameOf, nameIn, inputsOf}
+use Rattle.rules.specs.Walk.{Walk}
+use Rattle.rules.specs.Header.{secondWalkTo, secondWalk}
+use Rattle.rules.specs.Verdict.{LARGEST, Counts, counts, verdict}
+use Rattle.rules.specs.Runner.{Read, binding, reading, Run, find, runTo, run}
+use Rattle.rules.specs.Count.{nodesTo, nodeCount}
+use Rattle.rules.specs.Refusals.{refusals}
+
+-- ---- demand 2
+
+-- "the list is sound, the model keeps the size, Protocol Buffers and ONNX IR rules that document 01 lists, and its greatest
+-- count of names in scope fits the cells": the second walk here has no cells to fill.
+pub record Acceptable (model list : Bytes) (cells : ℕ) (c : Counts) : Type 0 where
+  pub list-sound : sound list ≡ true
+  pub size-kept : length model ≤ LARGEST
+  pub wire-kept : firstWalk model ≡ pass tt
+  pub rules-kept : (w : Walk) × (secondWalk model list (λ visible. false) ≡ pass w) × (counts w ≡ c)
+  pub names-fit : c .names ≤ cells
+
+-- "A model is accepted exactly when .." this holds, and with these counts.
+unfoldable pub AcceptedExactly : Type 0
+AcceptedExactly =
+    (model list : Bytes) (cells : ℕ) (c : Counts) → (verdict model list cells ≡ pass c) ↔ Acceptable model list cells c
+
+-- "Acceptance reports the true count of nodes and that greatest count": the plain count, and the most names bound together
+-- at any moment of the run that enters every body once.
+unfoldable pub CountsTrue : Type 0
+CountsTrue =
+    (model list : Bytes) (cells : ℕ) (c : Counts) → verdict model list cells ≡ pass c →
+    (c .nodes ≡ nodeCount model) × ((r : Run) × (run model [] ≡ pass r) × (c .names ≡ r .most))
+
+-- "a numbered refusal with a byte place": a number of the table, and 0 or a place inside the model.
+unfoldable pub RefusedProperly : Type 0
+RefusedProperly =
+    (model list : Bytes) (cells : ℕ) (r : Refusal) → verdict model list cells ≡ fail r →
+    T (contains (r .number) refusals) × ((r .place ≡ 0) ⊎ (r .place < length model))
+
+-- ---- demand 3
+
+-- Of an accepted model: "For every list of such choices the run, begun with no name bound, reaches its end", and "Any two reads of
+-- the same field, in one run or in two runs under different lists of choices, find the same defining place." Of one refused "for a
+-- name defined twice, a name not defined or an output not defined, the run that enters every body once stops at that very
+-- place."
+pub record Faithful (model list : Bytes) (cells : ℕ) : Type 0 where
+  pub ends : (c : Counts) → verdict model list cells ≡ pass c → (choices : List ℕ) → (r : Run) × (run model choices ≡ pass r)
+  pub agrees :
+      (c : Counts) → verdict model list cells ≡ pass c →
+      (choices₁ choices₂ : List ℕ) (r₁ r₂ : Run) → run model choices₁ ≡ pass r₁ → run model choices₂ ≡ pass r₂ →
+      (x₁ x₂ : Read) → List·Memᴰ x₁ (r₁ .trace) → List·Memᴰ x₂ (r₂ .trace) → x₁ .field ≡ x₂ .field → x₁ .found ≡ x₂ .found
+  pub stops-binding : (p : ℕ) → verdict model list cells ≡ refused 23 p → run model [] ≡ fail (binding p)
+  pub stops-reading : (p : ℕ) → verdict model list cells ≡ refused 30 p → run model [] ≡ fail (reading p)
+  pub stops-output : (p : ℕ) → verdict model list cells ≡ refused 35 p → run model [] ≡ fail (reading p)
+
+unfoldable pub Demand3 : Type 0
+Demand3 = (model list : Bytes) (cells : ℕ) → Faithful model list cells
+
+-- ---- the definitions themselves
+
+-- Wherever a definition recurses on a bound, any larger bound gives the same. (The ten bytes of a varint are a rule and no
+-- such bound.)
+pub record BoundsNeverDecide : Type 0 where
+  pub of-fields : (model : Bytes) (bound end pos : ℕ) → end ≤ pos + bound → fieldsFrom model bound end pos ≡ fields model end pos
+  pub of-entries : (list : Bytes) (bound pos : ℕ) → length list ≤ pos + bound → entriesFrom list bound pos ≡ entriesAt list pos
+  pub of-first-walk :
+      (model : Bytes) (bound : ℕ) (kind : Kind) (depth : ℕ) (slots : List ℕ) (end pos : ℕ) → end ≤ pos + bound →
+      walk model bound kind depth slots end pos ≡ walked model kind depth slots end pos
+  pub of-second-walk :
+      (model list : Bytes) (full : ℕ → Bool) (depth : ℕ) → firstWalk model ≡ pass tt → 8 ≤ depth →
+      secondWalkTo model list depth full ≡ secondWalk model list full
+  pub of-run : (model : Bytes) (bound : ℕ) (choices : List ℕ) → length model ≤ bound → runTo model bound choices ≡ run model choices
+  pub of-nodes : (model : Bytes) (bound : ℕ) → length model ≤ bound → nodesTo model bound ≡ nodeCount model
+
+-- No name in the list has these bytes.
+abbrev pub Absent : Bytes → List Name → Type 0
+Absent x names = (n : Name) → List·Memᴰ n names → n .bytes ≡ x → ⊥
+
+-- What judge and runner share does what its name says, since demand 3 cannot tell.
+pub record SharedTrue : Type 0 where
+  pub same-is-equal : (a b : Bytes) → T (same a b) ↔ (a ≡ b)
+  pub member-is-membership : (x : Bytes) (l : List Bytes) → T (member x l) ↔ List·Memᴰ x l
+  pub find-finds-newest :
+      (x : Bytes) (names : List Name) (p : ℕ) → find x names ≡ some p →
+      (newer older : List Name) × (n : Name) × (names ≡ newer ++ (n ∷ older)) × (n .bytes ≡ x) × (n .place ≡ p) × Absent x newer
+  pub find-misses-none : (x : Bytes) (names : List Name) → find x names ≡ none → Absent x names
+  pub fields-apart : (model : Bytes) (f : Field) → Ordered (f .start) (f .next) (message model f .fields)
+  pub all-of : (n : ℕ) (m : Message) (f : Field) → List·Memᴰ f (allOf n m) ↔ (List·Memᴰ f (m .fields) × (f .number ≡ n))
+  pub all-apart : (model : Bytes) (n : ℕ) (f : Field) → Ordered (f .start) (f .next) (allOf n (message model f))
+  pub bodies-of :
+      (a : Message) (f : Field) →
+      List·Memᴰ f (bodiesOf a) ↔ (List·Memᴰ f (a .fields) × ((f .number ≡ Attribute·g) ⊎ (f .number ≡ Attribute·graphs)))
+  pub bodies-apart : (model : Bytes) (f : Field) → Ordered (f .start) (f .next) (bodiesOf (message model f))
+  pub text-reads : (model : Bytes) (f : Field) (i : ℕ) → i < f .next - f .start → byte (text model f) i ≡ byte model (f .start + i)
+  pub text-ends : (model : Bytes) (f : Field) → length (text model f) ≡ min (f .next - f .start) (length model - f .start)
+  pub first-of : (n : ℕ) (m : Message) (f : Field) → firstOf n m ≡ some f → (more : List Field) × (allOf n m ≡ f ∷ more)
+  pub none-of : (n : ℕ) (m : Message) → firstOf n m ≡ none → allOf n m ≡ []
+  pub name-of : (model : Bytes) (n : ℕ) (m : Message) (f : Field) → firstOf n m ≡ some f → nameOf model n m ≡ nameIn model f
+  pub inputs-of :
+      (model : Bytes) (g : Message) (x : Bytes) →
+      List·Memᴰ x (inputsOf model g) ↔ ((f : Field) × List·Memᴰ f (allOf Graph·input g) × (nameOf model ValueInfo·name (message model f) .bytes ≡ x))

@@ -1,0 +1,120 @@
+-- The second walk on each of its refusals, evaluated: number and place. Main graphs stand from place 6 on in `model`, and their
+-- contents from 8 on.
+use Prim.Native.Nat.{ℕ}
+use Prim.Native.String.{String}
+use mathlib.Core.Path.{_≡_, refl}
+use mathlib.Core.List.{List, [], _∷_, _++_, map}
+use Rattle.wire.specs.Outcome.{pass, Judged, refused}
+use Rattle.wire.specs.Bytes.{Bytes}
+use Rattle.wire.specs.Notation.{hex, ascii}
+use Rattle.operators.specs.Samples.{L}
+use Rattle.schema.specs.Numbers.{Model·ir-version, Model·graph, Model·opset-import, OperatorSetId·domain, OperatorSetId·version, Graph·node, Graph·name, Graph·initializer, Graph·input, Graph·output, Graph·sparse-initializer, Node·output, Node·name, Node·op-type, Node·attribute, Node·domain, Attribute·name, Tensor·name, ValueInfo·name, ValueInfo·type, TypeProto·tensor, TensorType·elem-type, TensorType·shape, Shape·dim, Dimension·dim-param}
+use Rattle.rules.specs.Models.{held, counted, value, tensor, body, node, graph, model, Models·computes}
+use Rattle.rules.specs.Verdict.{Counts, verdict, Verdict·computes}
+
+-- ---- parts that are not as `Models` makes them
+
+named : Bytes
+named = held Graph·name (ascii "g")
+
+import : String → ℕ → Bytes
+import d v = held Model·opset-import (held OperatorSetId·domain (ascii d) ++ counted OperatorSetId·version v)
+
+-- A main graph with an input `x` of this type, and one with a node of these fields.
+typed : Bytes → Bytes
+typed type = model (named ++ held Graph·input (held ValueInfo·name (ascii "x") ++ type))
+
+tensorType : Bytes → Bytes
+tensorType fields = held ValueInfo·type (held TypeProto·tensor fields)
+
+dim : Bytes → Bytes
+dim fields = tensorType (counted TensorType·elem-type 1 ++ held TensorType·shape (held Shape·dim fields))
+
+noded : Bytes → Bytes
+noded fields = model (named ++ held Graph·node fields)
+
+op : Bytes
+op = held Node·op-type (ascii "F")
+
+out : Bytes
+out = held Node·output (ascii "y")
+
+-- A node with one attribute of these fields after its name `a`.
+attributed : Bytes → Bytes
+attributed fields = noded (op ++ held Node·attribute (held Attribute·name (ascii "a") ++ fields) ++ out)
+
+accepted : (nodes names : ℕ) → Judged Counts
+accepted nodes names = pass (record { nodes = nodes; names = names })
+
+-- A model, cells, and the answer.
+judged : List (Bytes × ℕ × Judged Counts)
+judged =
+    -- header
+    (counted Model·ir-version 3 ++ import "" 13 ++ held Model·graph named, 0, refused 10 0)
+    ∷ (import "" 13 ++ held Model·graph named ++ counted Model·ir-version 11, 0, refused 10 11)
+    ∷ (counted Model·ir-version 10 ++ import "" 13, 0, refused 11 0)
+    ∷ (counted Model·ir-version 4 ++ held Model·graph named, 0, refused 12 0)
+    ∷ (counted Model·ir-version 8 ++ import "" 13 ++ import "ai.onnx" 13 ++ held Model·graph named, 0, refused 13 8)
+    ∷ (counted Model·ir-version 8 ++ import "" 22 ++ import "" 13 ++ held Model·graph named, 0, refused 14 2)
+    ∷ (counted Model·ir-version 8 ++ import "ai.onnx.ml" 13 ++ held Model·graph named, 0, refused 14 2)
+    ∷ (model named ++ hex "CA 01 00" ++ hex "CA 01 00", 0, refused 15 11)
+    -- graph
+    ∷ (model [], 0, refused 20 6)
+    ∷ (model (held Graph·name []), 0, refused 20 8)
+    ∷ (model (held Graph·name (ascii "g-1")), 0, refused 21 8)
+    ∷ (model (held Graph·sparse-initializer [] ++ named), 0, refused 16 8)
+    ∷ (model (named ++ held Graph·input []), 0, refused 22 11)
+    ∷ (model (named ++ held Graph·output (value (ascii "w1"))), 0, refused 35 13)
+    -- types
+    ∷ (typed [], 1, refused 24 11)
+    ∷ (typed (held ValueInfo·type (hex "22 00")), 1, refused 24 16)
+    ∷ (typed (tensorType []), 1, refused 25 18)
+    ∷ (typed (tensorType (counted TensorType·elem-type 24)), 1, refused 25 20)
+    ∷ (typed (tensorType (counted TensorType·elem-type 23)), 1, refused 37 18)
+    ∷ (typed (dim (hex "08 FF FF FF FF FF FF FF FF FF 01")), 1, refused 38 26)
+    ∷ (typed (dim (held Dimension·dim-param [])), 1, refused 21 26)
+    ∷ (typed (dim []), 1, accepted 0 1)
+    -- initializers
+    ∷ (model (named ++ held Graph·initializer (held Tensor·name (ascii "w"))), 1, refused 26 11)
+    ∷ (model (graph "x" "w" [] "x"), 1, refused 40 28)
+    ∷ (model (graph "x" "x" [] "x"), 1, accepted 0 1)
+    ∷ (model (graph "x" "x x" [] "x"), 1, refused 23 35)
+    -- nodes
+    ∷ (noded out, 1, refused 27 11)
+    ∷ (noded (held Node·op-type [] ++ out), 1, refused 27 13)
+    ∷ (noded (held Node·domain (ascii "d") ++ op ++ out), 1, refused 28 13)
+    ∷ (noded (held Node·domain (ascii "ai.onnx") ++ op ++ out), 1, accepted 1 1)
+    ∷ (noded (op ++ held Node·name (ascii "1") ++ out), 1, refused 21 16)
+    ∷ (model (named ++ held Graph·node (op ++ held Node·name (ascii "n") ++ out) ++ held Graph·node (op ++ held Node·name (ascii "n") ++ out)), 1, refused 29 27)
+    ∷ (model (graph "w" "" (node "w1" [] "y" ∷ []) "y"), 2, refused 30 26)
+    ∷ (noded op, 1, refused 34 11)
+    ∷ (noded (op ++ held Node·output []), 0, accepted 1 0)
+    -- attributes
+    ∷ (noded (op ++ held Node·attribute [] ++ out), 1, refused 22 16)
+    ∷ (attributed (hex "A0 01 02"), 1, accepted 1 1)
+    ∷ (attributed [], 1, refused 32 16)
+    ∷ (attributed (hex "A0 01 0F"), 1, refused 32 16)
+    ∷ (attributed (hex "A0 01 02 22 00"), 1, refused 32 16)
+    ∷ (attributed (hex "A0 01 04"), 1, refused 32 16)
+    ∷ (attributed (hex "AA 01 01 61"), 1, refused 33 16)
+    ∷ (attributed (hex "AA 01 00 A0 01 03 22 00"), 1, accepted 1 1)
+    ∷ (noded (op ++ body "a" (graph "" "" [] "") ++ body "a" (graph "" "" [] "") ++ out), 1, refused 31 31)
+    -- a nested graph: no default in it, and the greatest count may lie there
+    ∷ (model (graph "x" "" (node "" (body "do" (graph "i" "i" [] "i") ∷ []) "y" ∷ []) "y"), 9, refused 23 57)
+    ∷ (model (graph "x" "" (node "" (body "do" (graph "i j" "k" [] "k") ∷ []) "y" ∷ []) "y"), 4, accepted 1 4)
+    ∷ (model (graph "x" "" (node "" (body "do" (graph "i j" "k" [] "k") ∷ []) "y" ∷ []) "y"), 3, refused 40 70)
+    -- "Shortcuts that let a bad graph through", each beside a good graph
+    ∷ (model (graph "x" "" (node "" (body "do" (graph "" "" (node "y" [] "t" ∷ []) "t") ∷ []) "y" ∷ []) "y"), 9, refused 30 42)
+    ∷ (model (graph "x" "" (node "" (body "do" (graph "" "" (node "x" [] "t" ∷ []) "t") ∷ []) "y" ∷ []) "y"), 9, accepted 2 2)
+    ∷ (model (node "x w" [] "y" ++ held Graph·output (value (ascii "y")) ++ held Graph·initializer (tensor (ascii "w")) ++ held Graph·input (value (ascii "x")) ++ named), 9, accepted 1 3)
+    ∷ (model (graph "x" "" (node "y" [] "a" ∷ node "x" [] "y" ∷ []) "y"), 9, refused 30 26)
+    ∷ (model (graph "x" "" (node "" (body "then" (graph "" "t" [] "t") ∷ body "else" (graph "" "" [] "t") ∷ []) "y" ∷ []) "y"), 9, refused 35 80)
+    ∷ (model (graph "x" "" (node "" (body "then" (graph "" "t" [] "t") ∷ body "else" (graph "" "t" [] "t") ∷ []) "y" ∷ []) "y"), 9, accepted 1 2)
+    ∷ (model (graph "x" "" (node "" (body "do" (graph "" "t" [] "t") ∷ []) "y" ∷ node "t" [] "z" ∷ []) "y"), 9, refused 30 68)
+    ∷ (model (graph "x" "x" (node "x" [] "y" ∷ []) "y"), 2, accepted 1 2)
+    ∷ (model (graph "w" "" (node "w" [] "w1" ∷ node "w1" [] "y" ∷ []) "y"), 9, accepted 2 3)
+    ∷ []
+
+judged-hold : map (λ s. verdict (s .0) L (s .1)) judged ≡ map (λ s. s .2) judged
+unfolding judged named import typed tensorType dim noded op out attributed accepted L Models·computes Verdict·computes
+judged-hold = refl

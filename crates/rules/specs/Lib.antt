@@ -1,0 +1,16 @@
+pub mod Identifier
+pub mod Names
+pub mod Walk
+pub mod Types
+pub mod Node
+pub mod Graph
+pub mod Header
+pub mod Verdict
+pub mod Runner
+pub mod Count
+pub mod Refusals
+pub mod Demands
+pub mod Models
+pub mod Samples
+pub mod Judged
+pub mod Runs

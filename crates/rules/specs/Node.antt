@@ -1,0 +1,125 @@
+-- The second walk of document 01 over a node and its attributes.
+use Prim.Native.Nat.{ℕ}
+use mathlib.Core.Bool.{Bool, true, false, not, _&&_, _||_}
+use mathlib.Core.List.{List, [], _∷_, map}
+use mathlib.Core.Option.{none, some}
+use lib.Dec.{eqb}
+use Rattle.wire.specs.Outcome.{pass, _>>=_, _>>_, each, Judged, Rule, refuse_at:_when:_}
+use Rattle.wire.specs.declared.Field.{Field}
+use Rattle.wire.specs.Lists.{isEmpty, contains, lookup}
+use Rattle.wire.specs.Bytes.{Bytes, member}
+use Rattle.wire.specs.Message.{Message, allOf, numberOf, placeOf, text, bytesOf, message}
+use Rattle.operators.specs.Operators.{domain, Operators·computes}
+use Rattle.schema.specs.Numbers.{Node·input, Node·output, Node·name, Node·op-type, Node·attribute, Node·domain, Attribute·name, Attribute·type, Attribute·ref-attr-name}
+use Rattle.rules.specs.Identifier.{identifier}
+use Rattle.rules.specs.Names.{Name, nameIn, bodiesOf}
+use Rattle.rules.specs.Walk.{Context, Walk, GraphJudge, withNode, leaving, Along, along, visible, naming, define, Walk·computes}
+
+-- ---- attribute values
+
+-- "Type number and carrier: 1→2, 2→3, ..". A carrier is a field that holds a value; the word is document 01's.
+unfoldable pub carriers : List (ℕ × ℕ)
+carriers =
+    (1, 2)
+    ∷ (2, 3)
+    ∷ (3, 4)
+    ∷ (4, 5)
+    ∷ (5, 6)
+    ∷ (6, 7)
+    ∷ (7, 8)
+    ∷ (8, 9)
+    ∷ (9, 10)
+    ∷ (10, 11)
+    ∷ (11, 22)
+    ∷ (12, 23)
+    ∷ (13, 14)
+    ∷ (14, 15)
+    ∷ []
+
+-- The fields that are carriers.
+unfoldable pub carrierNumbers : List ℕ
+carrierNumbers = map (λ c. c .1) carriers
+
+-- "types 4, 5, 11 or 13 lack theirs. The rest may be absent."
+unfoldable pub needed : ℕ → Bool
+needed type = contains type (4 ∷ 5 ∷ 11 ∷ 13 ∷ [])
+
+-- "another carrier occurs": one of these other than `mine`.
+unfoldable pub foreign : (mine : ℕ) → List (ℕ × ℕ) → Message → Bool
+foreign mine [] a = false
+foreign mine (c ∷ more) a = (not (eqb (c .1) mine) && not (isEmpty (allOf (c .1) a))) || foreign mine more a
+
+-- "Refusal 32 when type is outside 1..14, another carrier occurs, or types 4, 5, 11 or 13 lack theirs."
+unfoldable pub badValue : (type : ℕ) → Message → Bool
+badValue type a = elim (lookup type carriers) [
+  | none ↦ true
+  | some mine ↦ foreign mine carriers a || (needed type && isEmpty (allOf mine a))
+]
+
+-- ---- names of a node
+
+module _ (model : Bytes) where
+  -- "a nonempty node name (21, 29)": the names used in the graph, with this one.
+  unfoldable pub nodeName : (earlier : List Bytes) → Message → Judged (List Bytes)
+  nodeName earlier m = elim (isEmpty (bytesOf model Node·name m)) [
+    | true ↦ pass earlier
+    | false ↦ do
+      refuse 21 at: placeOf Node·name m when: not (identifier (bytesOf model Node·name m))
+      refuse 29 at: placeOf Node·name m when: member (bytesOf model Node·name m) earlier
+      pass (bytesOf model Node·name m ∷ earlier)
+  ]
+
+  -- "An empty input or output means "left out" and is passed over. Input: 21, 30."
+  unfoldable pub nodeInput : (scope : List Name) → Unit {0} → Field → Rule
+  nodeInput scope _ f = elim (isEmpty (text model f)) [
+    | true ↦ pass tt
+    | false ↦ do
+      refuse 21 at: f .place when: not (identifier (text model f))
+      refuse 30 at: f .place when: not (visible (text model f) scope)
+  ]
+
+  -- "Output: 21, 23, 40, and is visible from then on."
+  unfoldable pub nodeOutput : (full : ℕ → Bool) → Walk → Field → Judged Walk
+  nodeOutput full w f = elim (isEmpty (text model f)) [
+    | true ↦ pass w
+    | false ↦ do
+      refuse 21 at: f .place when: not (identifier (text model f))
+      define full w (nameIn model f)
+  ]
+
+-- ---- attribute and node; `nested` judges a graph that an attribute holds
+
+-- "Their names vanish when the graph ends."
+unfoldable pub body : (nested : GraphJudge) → Walk → Field → Judged Walk
+body nested w f = do
+  v ← nested w f
+  pass (leaving w v)
+
+-- "Attribute: 22, 21, 31, 33, 32; then its graphs in order"
+unfoldable pub attribute : (model : Bytes) → (nested : GraphJudge) → Along → Field → Judged Along
+attribute model nested w f = do
+  let a = message model f
+  x ← naming model 22 Attribute·name a
+  refuse 31 at: x .place when: member (x .bytes) (w .earlier)
+  refuse 33 at: a .place when: not (isEmpty (bytesOf model Attribute·ref-attr-name a))
+  refuse 32 at: a .place when: badValue (numberOf Attribute·type a) a
+  v ← each (body nested) (w .walk) (bodiesOf a)
+  pass (record { walk = v; earlier = x .bytes ∷ w .earlier })
+
+-- "Node: op_type (27, 21); 28; a nonempty node name (21, 29); inputs; attributes; 34; outputs."
+unfoldable pub node : (model : Bytes) → (full : ℕ → Bool) → Context → (nested : GraphJudge) → Along → Field → Judged Along
+node model full c nested w f = do
+  let m = message model f
+  _ ← naming model 27 Node·op-type m
+  refuse 28 at: placeOf Node·domain m when: not (member (domain (bytesOf model Node·domain m)) (c .imports))
+  names ← nodeName model (w .earlier) m
+  each (nodeInput model (w .walk .scope)) tt (allOf Node·input m)
+  a ← each (attribute model nested) (along (w .walk)) (allOf Node·attribute m)
+  refuse 34 at: m .place when: isEmpty (allOf Node·output m)
+  v ← each (nodeOutput model full) (a .walk) (allOf Node·output m)
+  pass (record { walk = withNode v; earlier = names })
+
+-- This file and what it is built on, for whoever computes with it.
+unfoldable pub Node·computes : Unit {0}
+unfolding Operators·computes Walk·computes carriers needed foreign badValue nodeName nodeInput nodeOutput body attribute node
+Node·computes = tt

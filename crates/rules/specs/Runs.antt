@@ -1,0 +1,76 @@
+-- Runs of the runner, evaluated.
+use Prim.Native.Nat.{ℕ}
+use mathlib.Core.Path.{_≡_, refl}
+use mathlib.Core.List.{List, [], _∷_, map, reverse}
+use Rattle.wire.specs.Outcome.{Outcome, pass, fail}
+use Rattle.wire.specs.Bytes.{Bytes}
+use Rattle.rules.specs.Models.{body, node, graph, model, Models·computes}
+use Rattle.rules.specs.Runner.{Stop, binding, reading, Ran, run, Runner·computes}
+
+-- The reads of a run in the order in which they were made, each as the place of the field and the place that it found.
+told : Ran → Outcome Stop (List (ℕ × ℕ))
+told (pass r) = pass (map (λ x. (x .field, x .found)) (reverse (r .trace)))
+told (fail s) = fail s
+
+-- ---- main graphs; each has the input `x`, and its last node binds `y`
+
+straight : Bytes
+straight = graph "x" "" (node "x" [] "a" ∷ node "x a" [] "y" ∷ []) "y"
+
+-- Both bodies bind `t`, and neither sees the other's.
+two-bodies : Bytes
+two-bodies =
+    graph "x" "" (node "x" (body "then" (graph "" "" (node "x" [] "t" ∷ []) "t") ∷ body "else" (graph "" "t" [] "t") ∷ []) "y" ∷ []) "y"
+
+one-body : Bytes
+one-body = graph "x" "" (node "" (body "do" (graph "" "" (node "x" [] "t" ∷ []) "t") ∷ []) "y" ∷ []) "y"
+
+inner : Bytes
+inner = graph "" "" (node "t" [] "u" ∷ []) "u"
+
+outer : Bytes
+outer = graph "" "" (node "x" [] "t" ∷ node "" (body "do" inner ∷ []) "v" ∷ []) "v"
+
+nested : Bytes
+nested = graph "x" "" (node "" (body "do" outer ∷ []) "y" ∷ []) "y"
+
+-- A body binds `t`, and so does its own node.
+shadow : Bytes
+shadow = graph "x" "" (node "" (body "do" (graph "" "t" [] "t") ∷ []) "t" ∷ node "t" [] "y" ∷ []) "y"
+
+-- A body reads its own node's output.
+self-reader : Bytes
+self-reader = graph "x" "" (node "" (body "do" (graph "" "" (node "y" [] "t" ∷ []) "t") ∷ []) "y" ∷ []) "y"
+
+-- A graph, choices, and what is told of the run.
+runs : List (Bytes × List ℕ × Outcome Stop (List (ℕ × ℕ)))
+runs =
+    (straight, [], pass ((26, 13) ∷ (37, 13) ∷ (40, 32) ∷ (51, 46) ∷ []))
+    ∷ (two-bodies, [], pass ((26, 13) ∷ (47, 13) ∷ (58, 53) ∷ (94, 89) ∷ (113, 108) ∷ []))
+    ∷ (two-bodies, 0 ∷ 1 ∷ [], pass ((26, 13) ∷ (94, 89) ∷ (113, 108) ∷ []))
+    ∷ (one-body, [], pass ((42, 13) ∷ (53, 48) ∷ (72, 67) ∷ []))
+    ∷ (one-body, 0 ∷ [], pass ((72, 67) ∷ []))
+    ∷ (one-body, 3 ∷ [], pass ((42, 13) ∷ (53, 48) ∷ (42, 13) ∷ (53, 48) ∷ (42, 13) ∷ (53, 48) ∷ (72, 67) ∷ []))
+    ∷ (nested, [], pass ((42, 13) ∷ (69, 48) ∷ (80, 75) ∷ (99, 94) ∷ (118, 113) ∷ []))
+    -- the outer body twice, and in it the inner one not at all, then three times
+    ∷ (nested, 2 ∷ 0 ∷ 3 ∷ [], pass ((42, 13) ∷ (99, 94) ∷ (42, 13) ∷ (69, 48) ∷ (80, 75) ∷ (69, 48) ∷ (80, 75) ∷ (69, 48) ∷ (80, 75) ∷ (99, 94) ∷ (118, 113) ∷ []))
+    ∷ (shadow, 2 ∷ [], pass ((49, 44) ∷ (49, 44) ∷ (68, 63) ∷ (79, 74) ∷ []))
+    ∷ (self-reader, [], fail (reading 42))
+    ∷ (self-reader, 0 ∷ [], pass ((72, 67) ∷ []))
+    -- a default, and a second one
+    ∷ (graph "x" "x" (node "x" [] "y" ∷ []) "y", [], pass ((33, 13) ∷ (44, 39) ∷ []))
+    ∷ (graph "x" "x x" (node "x" [] "y" ∷ []) "y", [], fail (binding 35))
+    -- a body binds an outer name
+    ∷ (graph "x" "" (node "" (body "do" (graph "x" "" [] "x") ∷ []) "y" ∷ []) "y", [], fail (binding 42))
+    -- use before definition, an output that is not defined, a name bound twice
+    ∷ (graph "x" "" (node "a" [] "y" ∷ node "x" [] "a" ∷ []) "y", [], fail (reading 26))
+    ∷ (graph "x" "" (node "x" [] "a" ∷ []) "y", [], fail (reading 37))
+    ∷ (graph "x" "" (node "x" [] "y y" ∷ []) "y", [], fail (binding 35))
+    -- the same output listed twice; a left-out input and a left-out output
+    ∷ (graph "x" "" (node "x" [] "y" ∷ []) "y y", [], pass ((26, 13) ∷ (37, 32) ∷ (50, 32) ∷ []))
+    ∷ (graph "x" "" (node " x" [] " y" ∷ []) "y", [], pass ((28, 13) ∷ (41, 36) ∷ []))
+    ∷ []
+
+runs-hold : map (λ s. told (run (model (s .0)) (s .1))) runs ≡ map (λ s. s .2) runs
+unfolding told runs straight two-bodies one-body inner outer nested shadow self-reader Models·computes Runner·computes
+runs-hold = refl

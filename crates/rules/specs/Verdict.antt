@@ -1,0 +1,42 @@
+-- The answer to a model, an operator list and a number of cells: "either *accepted* with two counts, or *refused* with a number
+-- and a place".
+use Prim.Native.Nat.{ℕ}
+use mathlib.Core.Bool.{Bool, not}
+use lib.ListN.{length}
+use lib.Dec.{leb, ltb}
+use Rattle.wire.specs.Outcome.{pass, _>>=_, _>>_, Judged, refuse_at:_when:_}
+use Rattle.wire.specs.Bytes.{Bytes}
+use Rattle.operators.specs.Operators.{sound}
+use Rattle.schema.specs.FirstWalk.{firstWalk, FirstWalk·computes}
+use Rattle.rules.specs.Walk.{Walk}
+use Rattle.rules.specs.Header.{secondWalk, Header·computes}
+
+-- "nodes in all graphs, and the largest number of names visible together at any moment of the walk"
+pub record Counts : Type 0 where
+  pub nodes : ℕ
+  pub names : ℕ
+
+unfoldable pub counts : Walk → Counts
+counts w = record { nodes = w .nodes; names = w .most }
+
+-- "model above 67,108,864 bytes"
+abbrev pub LARGEST : ℕ
+LARGEST = 67_108_864
+
+-- "visible names already equal the cells". Cells, document 01's term, are what the caller lends: one holds one visible name.
+unfoldable pub fills : (cells visible : ℕ) → Bool
+fills cells visible = leb cells visible
+
+-- "7 .. (tested first of all)", "8 .. (second)", the first walk, the second.
+unfoldable pub verdict : (model list : Bytes) → (cells : ℕ) → Judged Counts
+verdict model list cells = do
+  refuse 7 at: 0 when: ltb LARGEST (length model)
+  refuse 8 at: 0 when: not (sound list)
+  firstWalk model
+  w ← secondWalk model list (fills cells)
+  pass (counts w)
+
+-- This file and what it is built on, for whoever computes with it.
+unfoldable pub Verdict·computes : Unit {0}
+unfolding FirstWalk·computes Header·computes counts fills verdict
+Verdict·computes = tt
