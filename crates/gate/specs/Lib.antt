@@ -3,3 +3,4 @@ pub mod Imports
 pub mod Answers
 pub mod Shown
 pub mod Earlier
+pub mod Again

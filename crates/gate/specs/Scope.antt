@@ -1,15 +1,18 @@
 -- How lent cells hold what is visible: a cell is the place of the field that holds a name. No rule speaks of this; contracts of
 -- the code do.
-use Prim.Native.Nat.{ℕ, zero, suc, _≤_}
+use Prim.Native.Nat.{ℕ, zero, suc, _+_, _^_, _≤_, _<_}
 use mathlib.Core.Path.{_≡_}
 use mathlib.Core.List.{List, [], _∷_}
 use lib.ListN.{length, take, getD}
 use Rattle.wire.specs.Outcome.{pass, fail, Judged}
+use Rattle.wire.specs.declared.Field.{Field}
 use Rattle.wire.specs.Bytes.{Bytes}
 use Rattle.wire.specs.Wire.{field}
 use Rattle.wire.specs.Message.{text}
 use Rattle.rules.specs.Names.{Name}
 use Rattle.rules.specs.Walk.{Walk}
+use Rattle.gate.specs.declared.Ruling.{Ruling}
+use Rattle.gate.specs.declared.Ruling.the-variants as ruling
 use Rattle.gate.specs.declared.scopes.Progress.{Progress}
 use Rattle.gate.specs.declared.scopes.Step.{Step}
 use Rattle.gate.specs.declared.scopes.Step.the-variants as step
@@ -36,10 +39,28 @@ module _ (model : Bytes) where
   stepSays cells (step.Went p) = pass (walkIn cells p)
   stepSays cells (step.Refused r) = fail r
 
+-- The step of a rule that adds no name: the walk stays where it is.
+unfoldable pub standing : Progress → Ruling → Step
+standing p ruling.Kept = step.Went p
+standing p (ruling.Refused r) = step.Refused r
+
 -- Names are added, and none is taken away.
 unfoldable pub grows : Progress → Step → Type 0
 grows p (step.Went q) = p .used ≤ q .used
 grows p (step.Refused r) = Unit {0}
+
+-- The walk may go into a field: the model is short enough for a cell to hold any place of it, the field lies in it, and no more nodes
+-- have been counted than bytes stand before the field.
+pub record Enters (model : Bytes) (p : Progress) (f : Field) : Type 0 where
+  pub short : length model < 2 ^ 32
+  pub inside : f .next ≤ length model
+  pub tagged : f .place < f .start
+  pub few : p .nodes ≤ f .place
+
+-- What is counted of a field are no more nodes than it has bytes.
+unfoldable pub counted : Field → Progress → Step → Type 0
+counted f p (step.Went q) = q .nodes + f .place ≤ p .nodes + f .next
+counted f p (step.Refused r) = Unit {0}
 
 -- What stays of the cells: their number, and those in use.
 pub record Keeps (used : ℕ) (before after : List ℕ) : Type 0 where

@@ -53,7 +53,7 @@ fn is_ir_version(version: u64) -> bool
 }
 
 // Does a field with this number stand in the message that a field holds?
-fn has(model: &[u8], m: Field, number: u64) -> bool
+pub(crate) fn has(model: &[u8], m: Field, number: u64) -> bool
     ensures { λ r. ⌜ r ≡ present (firstOf number (message (now (model .entry)) m)) ⌝ }
 {
     match m.first_of(model, number) {

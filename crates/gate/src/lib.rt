@@ -24,6 +24,8 @@ pub enum Ruling {
 
 // The numbers of document 01's table that the second walk refuses with.
 impl Ruling {
+    pub const TOO_DEEP: u8 = 6;
+
     pub const BAD_IR_VERSION: u8 = 10;
 
     pub const NO_GRAPH: u8 = 11;
@@ -36,6 +38,10 @@ impl Ruling {
 
     pub const FUNCTIONS_PRESENT: u8 = 15;
 
+    pub const SPARSE_INITIALIZER: u8 = 16;
+
+    pub const GRAPH_NAME_EMPTY: u8 = 20;
+
     pub const NOT_IDENTIFIER: u8 = 21;
 
     pub const NAME_EMPTY: u8 = 22;
@@ -46,6 +52,12 @@ impl Ruling {
 
     pub const BAD_ELEM_TYPE: u8 = 25;
 
+    pub const BAD_DATA_TYPE: u8 = 26;
+
+    pub const OP_TYPE_EMPTY: u8 = 27;
+
+    pub const NOT_IMPORTED: u8 = 28;
+
     pub const NODE_NAME_TWICE: u8 = 29;
 
     pub const INPUT_NOT_VISIBLE: u8 = 30;
@@ -55,6 +67,8 @@ impl Ruling {
     pub const BAD_VALUE: u8 = 32;
 
     pub const REFERENCE_PRESENT: u8 = 33;
+
+    pub const NO_OUTPUT: u8 = 34;
 
     pub const OUTPUT_NOT_VISIBLE: u8 = 35;
 

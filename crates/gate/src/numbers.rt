@@ -13,9 +13,15 @@ pub const OPERATOR_SET_ID_VERSION: u64 = 2;
 
 pub const GRAPH_NODE: u64 = 1;
 
+pub const GRAPH_NAME: u64 = 2;
+
+pub const GRAPH_INITIALIZER: u64 = 5;
+
 pub const GRAPH_INPUT: u64 = 11;
 
 pub const GRAPH_OUTPUT: u64 = 12;
+
+pub const GRAPH_SPARSE_INITIALIZER: u64 = 15;
 
 pub const NODE_INPUT: u64 = 1;
 
@@ -23,13 +29,21 @@ pub const NODE_OUTPUT: u64 = 2;
 
 pub const NODE_NAME: u64 = 3;
 
+pub const NODE_OP_TYPE: u64 = 4;
+
 pub const NODE_ATTRIBUTE: u64 = 5;
+
+pub const NODE_DOMAIN: u64 = 7;
 
 pub const ATTRIBUTE_NAME: u64 = 1;
 
 pub const ATTRIBUTE_TYPE: u64 = 20;
 
 pub const ATTRIBUTE_REF_ATTR_NAME: u64 = 21;
+
+pub const TENSOR_DATA_TYPE: u64 = 2;
+
+pub const TENSOR_NAME: u64 = 8;
 
 pub const VALUE_INFO_NAME: u64 = 1;
 

@@ -8,7 +8,7 @@ ghost use Rattle.wire.specs.Outcome.{refused};
 ghost use Rattle.wire.specs.Bytes.{Bytes};
 ghost use Rattle.rules.specs.Verdict.{fills};
 ghost use Rattle.rules.specs.Walk.{visible, define};
-ghost use Rattle.gate.specs.Scope.{nameAt, scopeIn, walkIn, stepSays, grows, Keeps};
+ghost use Rattle.gate.specs.Scope.{nameAt, scopeIn, walkIn, stepSays, standing, grows, Keeps};
 ghost use Rattle.gate.specs.declared.scopes.Progress.{Progress};
 use crate::Ruling;
 use wire::Cursor;
@@ -95,6 +95,16 @@ pub(crate) fn stopped(number: u8, place: usize) -> Step
         number: number,
         place: place,
     })
+}
+
+// A rule that adds no name.
+pub(crate) fn standing(p: Progress, ruling: Ruling) -> Step
+    ensures { λ r. ⌜ r ≡ standing p ruling ⌝ }
+{
+    match ruling {
+        Ruling::Kept => Step::Went(p),
+        Ruling::Refused(r) => Step::Refused(r),
+    }
 }
 
 // A new name, that of the field at `place`: 23, 40, "and is visible from then on".
