@@ -9,14 +9,17 @@ use Rattle.wire.specs.declared.Field.{Field}
 use Rattle.wire.specs.Lists.{isEmpty}
 use Rattle.wire.specs.Bytes.{Bytes, member}
 use Rattle.wire.specs.Message.{numberOf, text, bytesOf, message}
+use Rattle.wire.proofs.Lists.{T-false}
+use Rattle.wire.proofs.Passing.{passed-bind, passed-seq, passed-rule}
 use Rattle.wire.proofs.CursorLaws.{says}
 use Rattle.wire.proofs.Refusing.{when-broken, when-kept, broken, kept}
-use Rattle.schema.specs.Numbers.{Attribute·name, Attribute·type, Attribute·ref-attr-name}
+use Rattle.schema.specs.Numbers.{Node·attribute, Attribute·name, Attribute·type, Attribute·ref-attr-name}
 use Rattle.schema.specs.Answers.{silent}
 use Rattle.rules.specs.Names.{Name, nameIn, bodiesOf}
 use Rattle.rules.specs.Walk.{Walk, start, Along, leaving, naming}
 use Rattle.rules.specs.Node.{badValue, body, attribute}
 use Rattle.gate.specs.Earlier.{passing, after}
+use Rattle.gate.specs.Again.{earlierIn, attributeRules}
 use Rattle.gate.specs.Answers.{namingSays}
 use Rattle.gate.specs.declared.names.Naming.{Naming}
 use Rattle.gate.specs.declared.names.Naming.the-variants as naming-answer
@@ -30,7 +33,7 @@ bodies-pass w (f ∷ l) = bodies-pass w l
 
 module _ (model : Bytes) (names : List Bytes) (f : Field) where
   -- what is asked once the name stands
-  Asked : Name → Rule
+  unfoldable pub Asked : Name → Rule
   Asked x = do
     refuse 31 at: x .place when: member (x .bytes) names
     refuse 33 at: f .place when: not (isEmpty (bytesOf model Attribute·ref-attr-name (message model f)))
@@ -53,7 +56,7 @@ module _ (model : Bytes) (names : List Bytes) (f : Field) where
       ∙ ap (λ (o : Rule). refuse 33 at: f .place when: not (isEmpty (bytesOf model Attribute·ref-attr-name (message model f))) >> o)
       (silent-last 32 _ _ _ (ap (λ (o : Judged Walk). silent {A = Along} (o >>= λ v. pass (record { walk = v; earlier = x .bytes ∷ names }))) (bodies-pass start (bodiesOf (message model f))))))
 
-  asked : silent (attribute model passing (after names) f) ≡ (naming model 22 Attribute·name (message model f) >>= Asked)
+  pub asked : silent (attribute model passing (after names) f) ≡ (naming model 22 Attribute·name (message model f) >>= Asked)
   unfolding attribute after message Named
   asked = silent-bind (naming model 22 Attribute·name (message model f)) Named Asked named
 
@@ -92,3 +95,11 @@ module _ (model : Bytes) (names : List Bytes) (f : Field) where
 
             pub attribute-good : v ≡ false → pass tt ≡ silent (attribute model passing (after names) f)
             attribute-good z = sym (plain ∙ kept 32 (f .place) z) ∙ named-by
+
+-- an attribute whose rules are kept has a good value
+pub attribute-value : (model : Bytes) (node f : Field) → attributeRules model node f ≡ pass tt → badValue (numberOf Attribute·type (message model f)) (message model f) ≡ false
+unfolding attributeRules Asked
+attribute-value model node f e =
+    let names = earlierIn model Node·attribute Attribute·name node f in
+    let p = passed-bind (naming model 22 Attribute·name (message model f)) (Asked model names f) tt (sym (asked model names f) ∙ e) in
+    T-false _ (passed-rule 32 (f .place) _ (passed-seq _ _ tt (passed-seq _ _ tt (p .2) .1) .1))

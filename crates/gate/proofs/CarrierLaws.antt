@@ -22,7 +22,7 @@ use Rattle.wire.proofs.Lists.{no-first, true-T, T-false, subset, contains-subse
 use Rattle.wire.proofs.CursorLaws.{answer-read, answer-refused}
 use Rattle.wire.proofs.Reading.{Fits, field-tells}
 use Rattle.wire.proofs.Fields.{fields-done, fields-step, fields-stop}
-use Rattle.schema.specs.Numbers.{Attribute·type}
+use Rattle.schema.specs.Numbers.{Attribute·type, Attribute·g, Attribute·graphs}
 use Rattle.rules.specs.Node.{carriers, carrierNumbers, needed, foreign, badValue}
 
 -- ---- numbers that no arm of a `match` has
@@ -55,6 +55,14 @@ carrier-none n l s h = ap carrierBy (lookup-none n carriers (contained-none n (t
 
 pub contains-at : (l : List ℕ) (m : ℕ) {n : ℕ} → n ≡ m → contains m l ≡ contains n l
 contains-at l m e = ap (λ (n : ℕ). contains n l) (sym e)
+
+-- ---- the fields that hold graphs
+
+pub body-at : (m : ℕ) {n : ℕ} → n ≡ m → (eqb Attribute·g m || eqb Attribute·graphs m) ≡ (eqb Attribute·g n || eqb Attribute·graphs n)
+body-at m e = ap (λ (n : ℕ). eqb Attribute·g n || eqb Attribute·graphs n) (sym e)
+
+pub body-none : (n : ℕ) → NoneOf n (Attribute·graphs ∷ Attribute·g ∷ []) → false ≡ (eqb Attribute·g n || eqb Attribute·graphs n)
+body-none n h = sym (rw (ne-eqb Attribute·g n (λ e. h .0 .1 (sym e)), ne-eqb Attribute·graphs n (λ e. h .1 (sym e))) refl)
 
 -- ---- one pass over the fields
 

@@ -37,18 +37,18 @@ unfolding input inMain
 inputs-any model full main k e w l = ap (λ (b : Bool). each (input model full (plain b)) w l) (sym e)
 
 -- n is the answer of reading the name
-module _ (model : Bytes) (f : Field) (n : Naming) (named : namingSays model n ≡ naming model 22 ValueInfo·name (message model f)) {g : Field} (e : n ≡ naming-answer.Named g) where
-  stands : pass (nameIn model g) ≡ naming model 22 ValueInfo·name (message model f)
+module _ (model : Bytes) (number : ℕ) (f : Field) (n : Naming) (named : namingSays model n ≡ naming model 22 number (message model f)) {g : Field} (e : n ≡ naming-answer.Named g) where
+  stands : pass (nameIn model g) ≡ naming model 22 number (message model f)
   unfolding namingSays
   stands = says (namingSays model) named e
 
   pub named-there : f .next ≤ length model → nameAt model (g .place) ≡ nameIn model g
   unfolding nameIn
-  named-there h = name-there model 22 ValueInfo·name f stands h
+  named-there h = name-there model 22 number f stands h
 
   pub named-placed : (most : ℕ) → length model < most → f .next ≤ length model → g .place < most
   unfolding nameIn
-  named-placed most h i = let p : g .place < f .next = name-placed model 22 ValueInfo·name f stands in omega arith
+  named-placed most h i = let p : g .place < f .next = name-placed model 22 number f stands in omega arith
 
 module _ (model : Bytes) (full : ℕ → Bool) (k : Context) (w : Walk) (f : Field) where
   abbrev Declared : Rule

@@ -13,3 +13,13 @@ pub mod StepLaws
 pub mod OutputLaws
 pub mod InputLaws
 pub mod HeaderLaws
+pub mod ListAgain
+pub mod AgainLaws
+pub mod InitializerLaws
+pub mod OpeningLaws
+pub mod ClosingLaws
+pub mod BodyLaws
+pub mod CycleLaws
+pub mod PromiseLaws
+pub mod GraphLaws
+pub mod CheckLaws

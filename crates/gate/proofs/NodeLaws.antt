@@ -1,20 +1,33 @@
--- A node's name in the order of the code's tests.
+-- What is asked of a node beside its attributes, in the order of the code's tests.
 use Prim.Native.Nat.{ℕ}
 use mathlib.Core.Path.{_≡_, refl, sym, ap, _∙_}
 use mathlib.Core.Bool.{Bool, true, false, not}
 use mathlib.Core.List.{List, [], _∷_}
 use mathlib.Core.Option.{Option, none, some}
 use lib.ListN.{length}
-use Rattle.wire.specs.Outcome.{pass, _>>=_, _>>_, Judged, Rule, refused, refuse_at:_when:_}
+use Rattle.wire.specs.Outcome.{pass, _>>=_, _>>_, each, Judged, Rule, refused, refuse_at:_when:_}
 use Rattle.wire.specs.declared.Field.{Field}
 use Rattle.wire.specs.Lists.{isEmpty}
 use Rattle.wire.specs.Bytes.{Bytes, member}
-use Rattle.wire.specs.Message.{firstOf, placeOf, text, bytesOf, message}
+use Rattle.wire.specs.Message.{allOf, firstOf, placeOf, text, bytesOf, message}
+use Rattle.wire.specs.declared.Refusal.{Refusal}
+use Rattle.wire.proofs.CursorLaws.{says}
 use Rattle.wire.proofs.Refusing.{when-broken, when-kept, broken, kept}
-use Rattle.schema.specs.Numbers.{Node·name}
+use Rattle.operators.specs.Operators.{domain}
+use Rattle.schema.specs.Numbers.{Graph·node, Node·name, Node·op-type, Node·domain, Node·input}
 use Rattle.schema.specs.Answers.{silent}
 use Rattle.rules.specs.Identifier.{identifier}
-use Rattle.rules.specs.Node.{nodeName}
+use Rattle.rules.specs.Names.{Name}
+use Rattle.rules.specs.Walk.{naming}
+use Rattle.rules.specs.Node.{nodeName, nodeInput}
+use Rattle.gate.specs.Imports.{importsIn}
+use Rattle.gate.specs.Answers.{rulingSays, namingSays}
+use Rattle.gate.specs.Again.{earlierIn, nodeRules}
+use Rattle.gate.specs.declared.Ruling.{Ruling}
+use Rattle.gate.specs.declared.Ruling.the-variants as ruling
+use Rattle.gate.specs.declared.names.Naming.{Naming}
+use Rattle.gate.specs.declared.names.Naming.the-variants as naming-answer
+use Rattle.gate.proofs.RulingLaws.{ruled-kept, ruled-refused}
 use Rattle.gate.proofs.NameLaws.{empty-none, empty-some}
 use Rattle.gate.proofs.Silent.{silent-rule, silent-last}
 
@@ -62,3 +75,42 @@ module _ (model : Bytes) (earlier : List Bytes) (m : Field) where
 
         pub node-named : v ≡ false → pass tt ≡ silent (nodeName model earlier (message model m))
         node-named u = sym (kept 29 (f .place) u) ∙ new
+
+-- ---- what is asked before the attributes
+
+module _ (model : Bytes) (graph : Field) (scope : List Name) (f : Field) where
+  abbrev Inputs : Rule
+  Inputs = each (nodeInput model scope) tt (allOf Node·input (message model f))
+
+  abbrev Naming? : Rule
+  Naming? = silent (nodeName model (earlierIn model Graph·node Node·name graph f) (message model f))
+
+  abbrev Imported : Rule
+  Imported = refuse 28 at: placeOf Node·domain (message model f) when: not (member (domain (bytesOf model Node·domain (message model f))) (importsIn model)) >> (Naming? >> Inputs)
+
+  module _ (n : Naming) (e : namingSays model n ≡ naming model 27 Node·op-type (message model f)) where
+    pub rules-untyped : {x : Refusal} → n ≡ naming-answer.Refused x → silent (namingSays model n) ≡ nodeRules model graph scope f
+    unfolding nodeRules namingSays silent _>>=_ _>>_
+    rules-untyped k = ap (λ (m : Naming). silent (namingSays model m)) k ∙ ap (λ (o : Judged Name). silent o >> Imported) (says (namingSays model) e k)
+
+    module _ {g : Field} (k : n ≡ naming-answer.Named g) {x : Bytes} (t : x ≡ bytesOf model Node·domain (message model f)) {b : Bool} (i : b ≡ member (domain x) (importsIn model)) where
+      typed : (refuse 28 at: placeOf Node·domain (message model f) when: not b >> (Naming? >> Inputs)) ≡ nodeRules model graph scope f
+      unfolding nodeRules namingSays silent _>>=_ _>>_
+      typed =
+          ap (λ (u : Bool). refuse 28 at: placeOf Node·domain (message model f) when: not u >> (Naming? >> Inputs)) (i ∙ ap (λ (y : Bytes). member (domain y) (importsIn model)) t)
+          ∙ ap (λ (o : Judged Name). silent o >> Imported) (says (namingSays model) e k)
+
+      pub rules-foreign : b ≡ false → {p : ℕ} → p ≡ placeOf Node·domain (message model f) → refused 28 p ≡ nodeRules model graph scope f
+      rules-foreign h q = ap (refused 28) q ∙ sym (when-broken 28 _ _ (ap not h)) ∙ typed
+
+      module _ (h : b ≡ true) (r : Ruling) (ruled : rulingSays r ≡ Naming?) where
+        imported : (Naming? >> Inputs) ≡ nodeRules model graph scope f
+        imported = sym (when-kept 28 _ _ (ap not h)) ∙ typed
+
+        pub rules-misnamed : {x : Refusal} → r ≡ ruling.Refused x → rulingSays r ≡ nodeRules model graph scope f
+        unfolding _>>_
+        rules-misnamed l = ruled ∙ ruled-refused ruled l ∙ ap (λ (o : Rule). o >> Inputs) (sym (ruled-refused ruled l)) ∙ imported
+
+        pub rules-inputs : r ≡ ruling.Kept → Inputs ≡ nodeRules model graph scope f
+        unfolding _>>_
+        rules-inputs l = ap (λ (o : Rule). o >> Inputs) (sym (ruled-kept ruled l)) ∙ imported

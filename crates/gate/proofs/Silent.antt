@@ -30,3 +30,25 @@ silent-fails (fail y) {x} e = let k : y ≡ x = cc in ap fail k
 pub silent-passes : {A : Type 0} (o : Judged A) → silent o ≡ pass tt → (a : A) × (o ≡ pass a)
 unfolding silent
 silent-passes o e = let p = passed-bind o (λ _. pass tt) tt e in (p .0, p .1)
+
+-- ---- what comes after
+
+pub silent-then : {A B : Type 0} (o : Judged A) (k : Judged B) → (silent o >> k) ≡ (o >>= λ _. k)
+unfolding silent _>>=_ _>>_
+silent-then (pass a) k = refl
+silent-then (fail r) k = refl
+
+pub seq-then : {B : Type 0} (r s : Rule) (k : Judged B) → (r >> s >> k) ≡ (r >> (s >> k))
+unfolding _>>_
+seq-then (pass u) s k = refl
+seq-then (fail r) s k = refl
+
+pub bind-then : {A B : Type 0} (o : Judged A) (f : A → Rule) (k : Judged B) → (o >>= f >> k) ≡ (o >>= λ a. f a >> k)
+unfolding _>>=_ _>>_
+bind-then (pass a) f k = refl
+bind-then (fail r) f k = refl
+
+pub seq-bind : {A B : Type 0} (r : Rule) (o : Judged A) (k : A → Judged B) → (r >> o >>= k) ≡ (r >> (o >>= k))
+unfolding _>>=_ _>>_
+seq-bind (pass u) o k = refl
+seq-bind (fail r) o k = refl

@@ -4,3 +4,4 @@ pub mod Answers
 pub mod Shown
 pub mod Earlier
 pub mod Again
+pub mod Meaning

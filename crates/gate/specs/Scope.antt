@@ -44,6 +44,10 @@ unfoldable pub standing : Progress → Ruling → Step
 standing p ruling.Kept = step.Went p
 standing p (ruling.Refused r) = step.Refused r
 
+-- After a nested graph: the names are those before it, the counts are those with it.
+unfoldable pub left : (before after : Progress) → Progress
+left before after = record { used = before .used; nodes = after .nodes; most = after .most }
+
 -- Names are added, and none is taken away.
 unfoldable pub grows : Progress → Step → Type 0
 grows p (step.Went q) = p .used ≤ q .used
@@ -55,6 +59,7 @@ pub record Enters (model : Bytes) (p : Progress) (f : Field) : Type 0 where
   pub short : length model < 2 ^ 32
   pub inside : f .next ≤ length model
   pub tagged : f .place < f .start
+  pub ends : f .start ≤ f .next
   pub few : p .nodes ≤ f .place
 
 -- What is counted of a field are no more nodes than it has bytes.

@@ -1,10 +1,6 @@
 // What is asked of an attribute before its graphs are judged.
 ghost use mathlib.Core.Path.{_≡_};
-ghost use Rattle.wire.specs.Message.{allOf, message};
-ghost use Rattle.schema.specs.Numbers.{Node·attribute, Attribute·name};
-ghost use Rattle.schema.specs.Answers.{silent};
-ghost use Rattle.rules.specs.Node.{attribute};
-ghost use Rattle.gate.specs.Earlier.{before, namesIn, passing, after};
+ghost use Rattle.gate.specs.Again.{attributeRules};
 ghost use Rattle.gate.specs.Answers.{rulingSays};
 use crate::Ruling;
 use crate::carriers::is_bad_value;
@@ -20,7 +16,7 @@ use wire::Field;
 
 // "Attribute: 22, 21, 31, 33, 32; then its graphs in order": all but the graphs.
 pub(crate) fn attribute_rules(model: &[u8], node: Field, a: Field) -> Ruling
-    ensures { λ r. ⌜ rulingSays r ≡ silent (attribute (now (model .entry)) passing (after (namesIn (now (model .entry)) Attribute·name (before (a .place) (allOf Node·attribute (message (now (model .entry)) node))))) a) ⌝ }
+    ensures { λ r. ⌜ rulingSays r ≡ attributeRules (now (model .entry)) node a ⌝ }
 {
     let naming = read_name(model, a, ATTRIBUTE_NAME, Ruling::NAME_EMPTY);
     let Naming::Named(name) = naming else {

@@ -1,11 +1,11 @@
 // "Type number and carrier": the fields that hold an attribute's value, by the attribute's type.
 ghost use mathlib.Core.Path.{_≡_};
-ghost use mathlib.Core.Bool.{not, _&&_};
+ghost use mathlib.Core.Bool.{not, _&&_, _||_};
 ghost use mathlib.Core.Option.{none, some};
 ghost use lib.Dec.{eqb};
 ghost use Rattle.wire.specs.Lists.{contains, lookup};
 ghost use Rattle.wire.specs.Message.{numberOf, message};
-ghost use Rattle.schema.specs.Numbers.{Attribute·type};
+ghost use Rattle.schema.specs.Numbers.{Attribute·type, Attribute·g, Attribute·graphs};
 ghost use Rattle.rules.specs.Node.{carriers, carrierNumbers, needed, foreign, badValue};
 use crate::numbers::ATTRIBUTE_TYPE;
 use wire::Cursor;
@@ -14,7 +14,7 @@ use wire::FieldAnswer;
 use wire::Sought;
 
 // 0 for a type that is outside 1..14.
-fn carrier_of(kind: u64) -> u64
+pub(crate) fn carrier_of(kind: u64) -> u64
     ensures { λ r. ⌜ r ≡ elim (lookup kind carriers) [ none ↦ 0 | some n ↦ n ] ⌝ }
 {
     match kind {
@@ -67,6 +67,17 @@ fn is_needed(kind: u64) -> bool
         5 => true,
         11 => true,
         13 => true,
+        _ => false,
+    }
+}
+
+// Does the field hold graphs, one or a list?
+pub(crate) fn is_body(number: u64) -> bool
+    ensures { λ r. ⌜ r ≡ (eqb Attribute·g number || eqb Attribute·graphs number) ⌝ }
+{
+    match number {
+        6 => true,
+        11 => true,
         _ => false,
     }
 }

@@ -29,7 +29,7 @@ use wire::Sought;
 const LEN: u64 = 2;
 
 // The model itself, as if it were the contents of a field: "and 0 for the model".
-fn whole(model: &[u8]) -> Field
+pub(crate) fn whole(model: &[u8]) -> Field
     ensures { λ r. ⌜ r ≡ whole (now (model .entry)) ⌝ }
 {
     Field {

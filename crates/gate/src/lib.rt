@@ -1,18 +1,24 @@
 // The check in front of the runtime. Its meaning stands in specs/: Verdict.antt, Runner.antt and Demands.antt first.
 mod attributes;
 mod carriers;
+mod checks;
 mod earlier;
+mod graphs;
 mod headers;
+mod initializers;
 mod inputs;
 mod names;
 mod nodes;
 mod numbers;
+mod openings;
 mod outputs;
 mod rulings;
 mod scopes;
 mod shown;
 mod types;
 
+pub use checks::Answer;
+pub use checks::check;
 pub use shown::show_name;
 use wire::Refusal;
 
@@ -25,6 +31,10 @@ pub enum Ruling {
 // The numbers of document 01's table that the second walk refuses with.
 impl Ruling {
     pub const TOO_DEEP: u8 = 6;
+
+    pub const MODEL_TOO_LARGE: u8 = 7;
+
+    pub const LIST_UNSOUND: u8 = 8;
 
     pub const BAD_IR_VERSION: u8 = 10;
 

@@ -8,7 +8,7 @@ ghost use Rattle.wire.specs.Outcome.{refused};
 ghost use Rattle.wire.specs.Bytes.{Bytes};
 ghost use Rattle.rules.specs.Verdict.{fills};
 ghost use Rattle.rules.specs.Walk.{visible, define};
-ghost use Rattle.gate.specs.Scope.{nameAt, scopeIn, walkIn, stepSays, standing, grows, Keeps};
+ghost use Rattle.gate.specs.Scope.{nameAt, scopeIn, walkIn, stepSays, standing, left, grows, Keeps};
 ghost use Rattle.gate.specs.declared.scopes.Progress.{Progress};
 use crate::Ruling;
 use wire::Cursor;
@@ -128,4 +128,15 @@ pub(crate) fn define(model: &[u8], cells: &mut [u32], p: Progress, place: usize)
         nodes: p.nodes,
         most: larger(p.most, more),
     })
+}
+
+// "Their names vanish when the graph ends": the walk after a nested graph, where it was `before`.
+pub(crate) fn leaving(before: Progress, after: Progress) -> Progress
+    ensures { λ r. ⌜ r ≡ left before after ⌝ }
+{
+    Progress {
+        used: before.used,
+        nodes: after.nodes,
+        most: after.most,
+    }
 }

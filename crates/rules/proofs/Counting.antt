@@ -25,10 +25,10 @@ use Rattle.rules.specs.Count.{nodesIn, nodesTo, nodeCount}
 use Rattle.rules.proofs.Bounds.{nodes-bound}
 
 -- what comes after a step of which nothing is asked
-after : {A B : Type 0} (R : B → Type 0) (j : Judged A) (f : A → Judged B) → ((a : A) → Tells R Any (f a)) → Tells R Any (j >>= f)
+pub after : {A B : Type 0} (R : B → Type 0) (j : Judged A) (f : A → Judged B) → ((a : A) → Tells R Any (f a)) → Tells R Any (j >>= f)
 after R j f h = tells-bind Any R Any j f (anything j) (λ a _. h a)
 
-past : {B : Type 0} (R : B → Type 0) (j : Rule) (k : Judged B) → Tells R Any k → Tells R Any (j >> k)
+pub past : {B : Type 0} (R : B → Type 0) (j : Rule) (k : Judged B) → Tells R Any k → Tells R Any (j >> k)
 past R j k h = tells-seq R Any j k (anything j) h
 
 -- the nodes of a state grow by those of a list
@@ -43,7 +43,7 @@ module _ {A S : Type 0} (n : S → ℕ) (k : A → List Field) (step : S → A �
       tells-weaken (Grows n t (flatMap k more)) (Grows n s (k a ++ flatMap k more)) Any Any (each step t more) (λ u q. let l = length-append (k a) (flatMap k more) in omega arith) (λ r _. tt) (grows-each more t))
 
 -- and stay as they are
-abbrev Stays : ℕ → Walk → Type 0
+abbrev pub Stays : ℕ → Walk → Type 0
 Stays n w = w .nodes ≡ n
 
 abbrev nodesOf : Along → ℕ
@@ -54,17 +54,17 @@ unfolding define withName
 stays-define full n w x e = past (Stays n) (refuse 23 at: _ when: _) _ (past (Stays n) (refuse 40 at: _ when: _) _ e)
 
 module _ (model : Bytes) (full : ℕ → Bool) where
-  stays-output : (n : ℕ) (w : Walk) (f : Field) → Stays n w → Tells (Stays n) Any (nodeOutput model full w f)
+  pub stays-output : (n : ℕ) (w : Walk) (f : Field) → Stays n w → Tells (Stays n) Any (nodeOutput model full w f)
   unfolding nodeOutput
   stays-output n w f e = tells-if (Stays n) Any (isEmpty (text model f)) _ _ (λ b. e) (λ b. past (Stays n) (refuse 21 at: _ when: _) _ (stays-define full n w (nameIn model f) e))
 
   module _ (c : Context) where
-    stays-input : (n : ℕ) (w : Walk) (f : Field) → Stays n w → Tells (Stays n) Any (input model full c w f)
+    pub stays-input : (n : ℕ) (w : Walk) (f : Field) → Stays n w → Tells (Stays n) Any (input model full c w f)
     unfolding input
     stays-input n w f e = after (Stays n) (naming model 22 ValueInfo·name (message model f)) _ (λ x.
         tells-bind (Stays n) (Stays n) Any (define full w x) _ (stays-define full n w x e) (λ v q. past (Stays n) (inMain c (declaredType model (message model f))) (pass v) q))
 
-    stays-default : (n : ℕ) (inputs : List Bytes) (w : Along) (x : Name) → Stays n (w .walk) → Tells (Stays n) Any (defaultOrNew full c inputs w x)
+    pub stays-default : (n : ℕ) (inputs : List Bytes) (w : Along) (x : Name) → Stays n (w .walk) → Tells (Stays n) Any (defaultOrNew full c inputs w x)
     unfolding defaultOrNew
     stays-default n inputs w x e = tells-if (Stays n) Any (isDefault c inputs (w .earlier) (x .bytes)) _ _ (λ b. e) (λ b. stays-define full n (w .walk) x e)
 

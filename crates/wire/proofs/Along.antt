@@ -34,6 +34,7 @@ module _ (s : Bytes) (number end : ℕ) where
     inside : f .next ≤ end
     read : field s end (f .place) ≡ pass f
     placed : f .place < f .next
+    from : pos ≤ f .place
 
   After? : (pos : ℕ) → List Field → Type 0
   After? pos [] = Unit {0}
@@ -46,12 +47,12 @@ module _ (s : Bytes) (number end : ℕ) where
     where
       kept : (b : Bool) (g : Field) → field s end (g .place) ≡ pass g → Fits pos end g → After? (g .next) (keep (λ f. eqb number (f .number)) (fieldsFrom s n end (g .next))) →
           After? pos (elim b [ true ↦ g ∷ keep (λ f. eqb number (f .number)) (fieldsFrom s n end (g .next)) | false ↦ keep (λ f. eqb number (f .number)) (fieldsFrom s n end (g .next)) ])
-      kept true g d e ih = record { more = ap (λ (l : List Field). keep (λ f. eqb number (f .number)) l) (fields-bound s n end (g .next) (omega arith)); onward = omega arith; inside = omega arith; read = d; placed = omega arith }
+      kept true g d e ih = record { more = ap (λ (l : List Field). keep (λ f. eqb number (f .number)) l) (fields-bound s n end (g .next) (omega arith)); onward = omega arith; inside = omega arith; read = d; placed = omega arith; from = omega arith }
       kept false g d e ih = later (keep (λ f. eqb number (f .number)) (fieldsFrom s n end (g .next))) ih
         where
           later : (l : List Field) → After? (g .next) l → After? pos l
           later [] a = tt
-          later (f ∷ l) a = record { more = a .more; onward = (let k = a .onward in omega arith); inside = a .inside; read = a .read; placed = a .placed }
+          later (f ∷ l) a = record { more = a .more; onward = (let k = a .onward in omega arith); inside = a .inside; read = a .read; placed = a .placed; from = (let k = a .from in omega arith) }
 
       go : (b : Bool) (o : Judged Field) → field s end pos ≡ o → Tells (Fits pos end) (AtTag pos) o → Tells (λ (f : Field). f .place ≡ pos) (AtTag pos) o → ((p : ℕ) → end ≤ p + n → After? p (keep (λ f. eqb number (f .number)) (fieldsFrom s n end p))) →
           After? pos (keep (λ f. eqb number (f .number)) (elim b [ true ↦ [] | false ↦ elim o [ pass f ↦ f ∷ fieldsFrom s n end (f .next) | fail r ↦ [] ] ]))
@@ -95,6 +96,8 @@ module _ (s : Bytes) (number end : ℕ) where
     pub inside : next .at ≤ end
     pub read : field s end (f .place) ≡ pass f
     pub placed : f .place < next .at
+    pub from : pos ≤ f .place
+    pub past : next .at ≡ f .next
 
   pub all-some : (pos : ℕ) {f : Field} {next : Cursor} → some (f, next) ≡ soughtIn s number end pos → Onward pos f next
   unfolding Told After? after
@@ -110,6 +113,7 @@ module _ (s : Bytes) (number end : ℕ) where
           let near = a .inside in
           let here : f .place ≡ g .place = ap (λ (y : Field). y .place) x in
           let short = a .placed in
+          let low = a .from in
           record {
             list = k ∙ ap (λ (l : List Field). g ∷ l) (a .more ∙ ap allFrom (sym at-next)) ∙ ap (λ (y : Field). y ∷ allFrom (next .at)) (sym x);
             ends = ap (λ (y : Cursor). y .end) n;
@@ -117,6 +121,8 @@ module _ (s : Bytes) (number end : ℕ) where
             inside = omega arith;
             read = ap (λ (y : Field). field s end (y .place)) x ∙ a .read ∙ ap pass (sym x);
             placed = omega arith;
+            from = omega arith;
+            past = at-next ∙ ap (λ (y : Field). y .next) (sym x);
           }
 
 -- a loop that has come to the state `t` and the cursor `c`, where the whole of it answers `o`
@@ -164,3 +170,10 @@ module _ {S : Type 0} {s : Bytes} {number end : ℕ} {step : S → Field → Jud
 
       pub along-placed : f .place < end
       along-placed = let short = went .placed in let near = went .inside in omega arith
+
+      -- it stands where the cursor was, or later, and the next one after it
+      pub along-from : c .at ≤ f .place
+      along-from = went .from
+
+      pub along-past : next .at ≡ f .next
+      along-past = went .past

@@ -1,0 +1,12 @@
+use mathlib.Core.List.{[], _∷_}
+use Rattle.gate.proofs.CarrierLaws.{body-at, body-none}
+use Rattle.gate.proofs.carriers.is_body.Statement.{statement}
+use Rattle.gate.proofs.carriers.is_body.Tie as tie
+
+pub is-body-spec : {M : Type 1} → statement M
+is-body-spec =
+    tie.close
+    (tie.spec
+    (λ c. body-at 6 (c .match .keys1))
+    (λ c. body-at 11 (c .match .keys2))
+    (λ c. body-none (c .before .args .number) (c .match .rest)))

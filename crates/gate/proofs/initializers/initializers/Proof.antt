@@ -1,0 +1,58 @@
+use Prim.Native.Nat.{_-_}
+use native.Mathlib.Nat.{le-trans}
+use mathlib.Core.Path.{_∙_}
+use lib.ListN.{length}
+use Rattle.wire.specs.Outcome.{each}
+use Rattle.wire.proofs.Along.{allFrom, along-start, along-all}
+use Rattle.schema.specs.Numbers.{Graph·initializer}
+use Rattle.rules.specs.Verdict.{fills}
+use Rattle.gate.specs.Scope.{walkIn}
+use Rattle.gate.specs.Again.{initializerAgain}
+use Rattle.gate.proofs.StepLaws.{Adding, adding-start, adding-done, adding-falls, adding-inside, adding-stops, adding-goes}
+use borrow.Author.Needs.{needs}
+use Rattle.gate.proofs.initializers.initializers.Statement.{statement}
+use Rattle.gate.proofs.initializers.initializers.Tie as tie
+
+abbrev Inv-loop : tie.InvT-loop
+Inv-loop model cells₀ main graph start end c₀ q₀ cells c q = Adding model Graph·initializer end (λ n. initializerAgain model (fills n) main graph) (each (initializerAgain model (fills (length cells₀)) main graph) (walkIn model cells₀ q₀) (allFrom model Graph·initializer end start)) cells₀ q₀ cells q c
+
+abbrev μ-loop : tie.MeasureT-loop
+μ-loop model cells₀ main graph start end c₀ q₀ cells c q = end - c .at
+
+loop-holds : tie.Need-loop-holds Inv-loop μ-loop
+loop-holds c = adding-start _ _ _ _ _ _ (along-start _ _ _ _ _)
+
+returns : tie.Need-returns Inv-loop μ-loop
+returns c = let d = adding-done (c .before .before .before .loop .inv) (c .before .before .next-of .ensures) (c .enum-told .given .1) in (d .0 ∙ along-all _ _ _ _ _, d .1)
+
+initializer-requires : tie.Need-initializer-requires Inv-loop μ-loop
+initializer-requires c κs = (c .before .before .before .before .before .before .before .before .pre .0, le-trans (adding-inside (c .before .before .before .before .before .loop .inv) (c .before .before .before .before .next-of .ensures) (c .before .before .sought .given .1)) (c .before .before .before .before .before .before .before .before .pre .1))
+
+returns-2 : tie.Need-returns-2 Inv-loop μ-loop
+returns-2 c = let d = adding-stops (c .before .before .before .before .before .before .before .before .before .before .loop .inv) (c .before .before .before .before .before .before .before .before .before .next-of .ensures) (c .before .before .before .before .before .before .before .sought .given .1) _ (c .before .before .before .before .initializer .ensures .0) (c .before .before .before .before .initializer .ensures .1 .0) (c .before .before .before .before .initializer .ensures .1 .1) (c .enum-told2 .given .1) in (d .0 ∙ along-all _ _ _ _ _, d .1)
+
+loop-less : tie.Need-loop-less Inv-loop μ-loop
+loop-less c = adding-falls (c .before .before .before .before .before .before .before .before .before .before .before .loop .inv) (c .before .before .before .before .before .before .before .before .before .before .next-of .ensures) (c .before .before .before .before .before .before .before .before .sought .given .1)
+
+loop-again : tie.Need-loop-again Inv-loop μ-loop
+loop-again c = adding-goes (c .before .before .before .before .before .before .before .before .before .before .before .loop .inv) (c .before .before .before .before .before .before .before .before .before .before .next-of .ensures) (c .before .before .before .before .before .before .before .before .sought .given .1) _ (c .before .before .before .before .before .initializer .ensures .0) (c .before .before .before .before .before .initializer .ensures .1 .0) (c .before .before .before .before .before .initializer .ensures .1 .1) (c .before .step .given .1)
+
+pub initializers-spec : {M : Type 1} → statement M
+initializers-spec =
+    tie.close
+    (tie.spec
+    Inv-loop
+    μ-loop
+    loop-holds
+    (λ c κs. search needs)
+    (λ c. search needs)
+    (λ c. search needs)
+    (λ c. search needs)
+    returns
+    initializer-requires
+    (λ c. search needs)
+    (λ c. search needs)
+    (λ c. search needs)
+    returns-2
+    loop-less
+    loop-again)

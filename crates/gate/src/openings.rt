@@ -1,0 +1,58 @@
+// A graph up to its nodes.
+ghost use mathlib.Core.Path.{_≡_};
+ghost use Prim.Native.Nat.{_^_, _<_, _≤_};
+ghost use lib.ListN.{length};
+ghost use Rattle.rules.specs.Verdict.{fills};
+ghost use Rattle.gate.specs.Scope.{walkIn, stepSays, grows, Keeps};
+ghost use Rattle.gate.specs.Answers.{rulingSays};
+ghost use Rattle.gate.specs.Again.{graphRules, opening};
+use crate::Ruling;
+use crate::headers::has;
+use crate::initializers::initializers;
+use crate::inputs::inputs;
+use crate::names::Naming;
+use crate::names::misnaming;
+use crate::names::read_name;
+use crate::numbers::GRAPH_NAME;
+use crate::numbers::GRAPH_SPARSE_INITIALIZER;
+use crate::rulings::refused;
+use crate::scopes::Progress;
+use crate::scopes::Step;
+use crate::scopes::standing;
+use wire::Field;
+
+// "its name (20, 21); 16"
+fn graph_rules(model: &[u8], f: Field) -> Ruling
+    ensures { λ r. ⌜ rulingSays r ≡ graphRules (now (model .entry)) f ⌝ }
+{
+    let naming = read_name(model, f, GRAPH_NAME, Ruling::GRAPH_NAME_EMPTY);
+    let Naming::Named(_) = naming else {
+        return misnaming(naming);
+    };
+    if has(model, f, GRAPH_SPARSE_INITIALIZER) {
+        return refused(
+            Ruling::SPARSE_INITIALIZER,
+            f.place_of(model, GRAPH_SPARSE_INITIALIZER),
+        );
+    }
+    Ruling::Kept
+}
+
+// "its name (20, 21); 16; inputs; initializers"
+pub(crate) fn opening(model: &[u8], cells: &mut [u32], main: bool, p: Progress, f: Field) -> Step
+    requires { ⌜ length (now model) < 2 ^ 32 ⌝ }
+    requires { ⌜ f .next ≤ length (now model) ⌝ }
+    ensures answer { λ r. ⌜ stepSays (now (model .entry)) (now (cells .exit)) r ≡ opening (now (model .entry)) (fills (length (now (cells .entry)))) main (walkIn (now (model .entry)) (now (cells .entry)) p) f ⌝ }
+    ensures grown { λ r. ⌜ grows p r ⌝ }
+    ensures kept { λ _. ⌜ Keeps (p .used) (now (cells .entry)) (now (cells .exit)) ⌝ }
+{
+    let ruling = graph_rules(model, f);
+    let Ruling::Kept = ruling else {
+        return standing(p, ruling);
+    };
+    let step = inputs(model, cells, main, p, f);
+    let Step::Went(q) = step else {
+        return step;
+    };
+    initializers(model, cells, main, q, f)
+}
