@@ -1,0 +1,107 @@
+/* Document 01's sample models through onnx_gate.h, and the name service. Prints what fails, and how many passed. */
+#include "onnx_gate.h"
+
+#include <stdio.h>
+#include <stdlib.h>
+#include <string.h>
+
+#define L "\x00\x00\x00\x0B\x01\x00\x08\x00\x00\x00\x07\x00\x00\x00\x15"
+#define M0 "\x08\x08\x42\x02\x10\x0D\x3A\x03\x12\x01\x67"
+#define M1 "\x08\x08\x42\x02\x10\x0D\x3A\x0B\x12\x01\x67\x0A\x06\x12\x01\x61\x22\x01\x58"
+#define NINE "\xFF\xFF\xFF\xFF\xFF\xFF\xFF\xFF\xFF"
+
+/* a string's bytes and their number, without the 0 that C puts at its end */
+#define BYTES(s) (s), sizeof(s) - 1
+
+static const struct sample {
+    const char *model;
+    size_t model_length;
+    const char *operators;
+    size_t operators_length;
+    size_t cells;
+    struct onnx_gate_answer answer;
+} samples[] = {
+    {NULL, 0, BYTES(L), 0, {10, 0, 0, 0}},
+    {BYTES("\x08"), BYTES(L), 0, {1, 0, 0, 0}},
+    {BYTES("\x00"), BYTES(L), 0, {3, 0, 0, 0}},
+    {BYTES("\x0A"), BYTES(L), 0, {4, 0, 0, 0}},
+    {BYTES("\x08\x08\x08\x08"), BYTES(L), 0, {5, 2, 0, 0}},
+    {BYTES("\x08" NINE "\x01"), BYTES(L), 0, {10, 0, 0, 0}},
+    {BYTES("\x08" NINE "\x02"), BYTES(L), 0, {2, 0, 0, 0}},
+    {BYTES(M0), BYTES(L), 0, {0, 0, 0, 0}},
+    {BYTES(M1), BYTES(L), 1, {0, 0, 1, 1}},
+    {BYTES(M1), BYTES(L), 9, {0, 0, 1, 1}},
+    {BYTES(M1), BYTES(L), 0, {40, 13, 0, 0}},
+    {BYTES("\x08\x08\x42\x02\x10\x0D\x3A\x0E\x12\x01\x67\x0A\x09\x0A\x01\x61\x12\x01\x61\x22\x01\x58"), BYTES(L), 1, {30, 13, 0, 0}},
+    {BYTES("\x08\x08\x42\x02\x10\x0D\x3A\x0E\x12\x01\x67\x0A\x09\x12\x01\x61\x12\x01\x61\x22\x01\x58"), BYTES(L), 1, {23, 16, 0, 0}},
+    {BYTES("\x08\x03\x42\x02\x10\x0D\x3A\x03\x12\x01\x67"), BYTES(L), 0, {10, 0, 0, 0}},
+    {BYTES("\x08\x08\x42\x02\x10\x16\x3A\x03\x12\x01\x67"), BYTES(L), 0, {14, 2, 0, 0}},
+    {BYTES(M0), BYTES("\x00\x00\x00\x01\x01"), 0, {14, 2, 0, 0}},
+    {BYTES(M0), BYTES("\x00\x00\x00\x01\x02"), 0, {8, 0, 0, 0}},
+    {BYTES(M0), NULL, 0, 3, {8, 0, 0, 0}},
+};
+
+static const struct {
+    uint64_t start, length;
+    struct onnx_gate_part part;
+} parts[] = {
+    {15, 1, {15, 1}},
+    {0, 19, {0, 19}},
+    {19, 0, {19, 0}},
+    {0, 20, {0, 0}},
+    {18, 2, {0, 0}},
+    {20, 0, {0, 0}},
+    {1, UINT64_MAX, {0, 0}},
+    {UINT64_MAX, 1, {0, 0}},
+};
+
+static int passed, failed;
+
+static void expect(int holds, const char *what, size_t which)
+{
+    if (holds) {
+        passed++;
+        return;
+    }
+    failed++;
+    printf("failed: %s %lu\n", what, (unsigned long)which);
+}
+
+static int is(struct onnx_gate_answer a, struct onnx_gate_answer b)
+{
+    return a.refusal == b.refusal && a.place == b.place && a.nodes == b.nodes && a.names == b.names;
+}
+
+static void check_sample(const struct sample *s, size_t which)
+{
+    uint32_t cells[10], zero[10] = {0};
+    memset(cells, 0xA5, sizeof cells);
+    struct onnx_gate_answer answer = onnx_gate_check((const uint8_t *)s->model, s->model_length, (const uint8_t *)s->operators,
+                                                     s->operators_length, s->cells ? cells : NULL, s->cells);
+    expect(is(answer, s->answer), "sample", which);
+    expect(memcmp(cells, zero, s->cells * sizeof cells[0]) == 0, "cells zero, sample", which);
+    expect(cells[s->cells] == 0xA5A5A5A5, "cell behind the cells, sample", which);
+}
+
+static void check_large(size_t length, struct onnx_gate_answer expected)
+{
+    uint8_t *model = (uint8_t *)calloc(length, 1);
+    expect(model && is(onnx_gate_check(model, length, (const uint8_t *)L, sizeof L - 1, NULL, 0), expected), "large", length);
+    free(model);
+}
+
+int main(void)
+{
+    struct onnx_gate_answer bad_tag = {3, 0, 0, 0}, too_large = {7, 0, 0, 0};
+    size_t i;
+    for (i = 0; i < sizeof samples / sizeof samples[0]; i++)
+        check_sample(&samples[i], i);
+    for (i = 0; i < sizeof parts / sizeof parts[0]; i++) {
+        struct onnx_gate_part p = onnx_gate_show_name((const uint8_t *)M1, sizeof M1 - 1, parts[i].start, parts[i].length);
+        expect(p.start == parts[i].part.start && p.length == parts[i].part.length, "part", i);
+    }
+    check_large(67108864, bad_tag);
+    check_large(67108865, too_large);
+    printf("%d passed, %d failed\n", passed, failed);
+    return failed != 0;
+}
