@@ -1,0 +1,275 @@
+//! The plain checker: document 01's rules over a standard map, written from that page alone.
+//! It is linear in the model: each message is scanned a fixed number of times, names go through hashing.
+
+use std::collections::HashSet;
+
+use crate::header::header;
+use crate::oplist;
+use crate::parts::{all, contents, first, identifier, number_in, refuse, Step};
+use crate::schema;
+use crate::wire::{fields, Field};
+
+/// The answer of document 01: two counts, or a number and a place.
+#[derive(Clone, Copy, Debug, PartialEq, Eq)]
+pub enum Verdict {
+    Accepted { nodes: u64, names: u64 },
+    Refused { number: u64, place: u64 },
+}
+
+#[derive(Clone, Copy, Debug, PartialEq, Eq)]
+pub struct Refusal {
+    pub number: u64,
+    pub place: u64,
+}
+
+/// The largest model, in bytes.
+pub const LARGEST_MODEL: usize = 67_108_864;
+
+pub fn check(model: &[u8], list: &[u8], cells: usize) -> Verdict {
+    match judge(model, list, cells) {
+        Ok((nodes, names)) => Verdict::Accepted { nodes, names },
+        Err(Refusal { number, place }) => Verdict::Refused { number, place },
+    }
+}
+
+fn judge(model: &[u8], list: &[u8], cells: usize) -> Result<(u64, u64), Refusal> {
+    if model.len() > LARGEST_MODEL {
+        return refuse(7, 0);
+    }
+    let Some(operators) = oplist::read(list) else {
+        return refuse(8, 0);
+    };
+    schema::first_walk(model)?;
+    let (graph, imports) = header(model, &operators)?;
+    let mut judge = Judge { model, imports, cells, visible: HashSet::new(), trail: Vec::new(), nodes: 0, names: 0 };
+    judge.graph(graph, true)?;
+    Ok((judge.nodes, judge.names as u64))
+}
+
+/// For each attribute type from 1 to 14 the field that carries its value.
+const CARRIERS: [u32; 14] = [2, 3, 4, 5, 6, 7, 8, 9, 10, 11, 22, 23, 14, 15];
+
+/// The second walk below the header.
+struct Judge<'m> {
+    model: &'m [u8],
+    imports: HashSet<&'m [u8]>,
+    cells: usize,
+    /// The names visible now, and the same in the order in which they became so.
+    visible: HashSet<&'m [u8]>,
+    trail: Vec<&'m [u8]>,
+    nodes: u64,
+    names: usize,
+}
+
+impl<'m> Judge<'m> {
+    fn graph(&mut self, graph: Field, main: bool) -> Step {
+        let outer = self.trail.len();
+        self.name(graph, 2, 20)?;
+        if let Some(sparse) = first(self.model, graph, 15) {
+            return refuse(16, sparse.place);
+        }
+        for input in all(self.model, graph, 11) {
+            self.define(input, 1)?;
+            if main {
+                self.tensor_type(input)?;
+            }
+        }
+        self.initializers(graph, main)?;
+        let mut node_names = HashSet::new();
+        for node in all(self.model, graph, 1) {
+            self.node(node, &mut node_names)?;
+        }
+        for output in all(self.model, graph, 12) {
+            let (name, place) = self.name(output, 1, 22)?;
+            self.use_name(name, place, 35)?;
+            if main {
+                self.tensor_type(output)?;
+            }
+        }
+        for name in self.trail.drain(outer..) {
+            self.visible.remove(name);
+        }
+        Ok(())
+    }
+
+    fn initializers(&mut self, graph: Field, main: bool) -> Step {
+        // Inputs of the main graph that have no default yet. A nested initializer is never a default.
+        let mut free = HashSet::new();
+        if main {
+            let named = all(self.model, graph, 11).filter_map(|input| first(self.model, input, 1));
+            free.extend(named.map(|field| contents(self.model, field)));
+        }
+        for tensor in all(self.model, graph, 5) {
+            let (name, place) = self.name(tensor, 8, 22)?;
+            if !free.remove(name) {
+                self.bind(name, place)?;
+            }
+            number_in(self.model, tensor, 2, 1..=23, 26)?;
+        }
+        Ok(())
+    }
+
+    fn node(&mut self, node: Field, node_names: &mut HashSet<&'m [u8]>) -> Step {
+        let model = self.model;
+        self.nodes += 1;
+        self.name(node, 4, 27)?;
+        self.domain(node)?;
+        if let Some(field) = first(model, node, 3).filter(|field| field.start != field.end) {
+            self.identifier(field)?;
+            if !node_names.insert(contents(model, field)) {
+                return refuse(29, field.place);
+            }
+        }
+        for input in all(model, node, 1).filter(|field| field.start != field.end) {
+            self.identifier(input)?;
+            self.use_name(contents(model, input), input.place, 30)?;
+        }
+        let mut attribute_names = HashSet::new();
+        for attribute in all(model, node, 5) {
+            self.attribute(attribute, &mut attribute_names)?;
+        }
+        if first(model, node, 2).is_none() {
+            return refuse(34, node.place);
+        }
+        for output in all(model, node, 2).filter(|field| field.start != field.end) {
+            self.identifier(output)?;
+            self.bind(contents(model, output), output.place)?;
+        }
+        Ok(())
+    }
+
+    fn domain(&self, node: Field) -> Step {
+        let (named, place) = match first(self.model, node, 7) {
+            Some(field) => (contents(self.model, field), field.place),
+            None => (&self.model[..0], node.place),
+        };
+        if self.imports.contains(oplist::domain(named)) {
+            Ok(())
+        } else {
+            refuse(28, place)
+        }
+    }
+
+    fn attribute(&mut self, attribute: Field, attribute_names: &mut HashSet<&'m [u8]>) -> Step {
+        let model = self.model;
+        let (name, place) = self.name(attribute, 1, 22)?;
+        if !attribute_names.insert(name) {
+            return refuse(31, place);
+        }
+        if first(model, attribute, 21).is_some_and(|field| field.start != field.end) {
+            return refuse(33, attribute.place);
+        }
+        if !self.value_rule(attribute) {
+            return refuse(32, attribute.place);
+        }
+        for body in fields(model, attribute.start, attribute.end).filter(|field| matches!(field.number, 6 | 11)) {
+            self.graph(body, false)?;
+        }
+        Ok(())
+    }
+
+    /// The type is one of fourteen, no carrier of another type occurs, and types 4, 5, 11 and 13 have theirs.
+    fn value_rule(&self, attribute: Field) -> bool {
+        let kind = first(self.model, attribute, 20).map_or(0, |field| field.value as i64);
+        if !(1..=14).contains(&kind) {
+            return false;
+        }
+        let own = CARRIERS[kind as usize - 1];
+        let mut carried = false;
+        for field in fields(self.model, attribute.start, attribute.end) {
+            if field.number == own {
+                carried = true;
+            } else if CARRIERS.contains(&field.number) {
+                return false;
+            }
+        }
+        carried || !matches!(kind, 4 | 5 | 11 | 13)
+    }
+
+    /// The type of an input or output of the main graph: 24, 25, 37, then each dim.
+    fn tensor_type(&self, value_info: Field) -> Step {
+        let model = self.model;
+        let Some(kind) = first(model, value_info, 2) else {
+            return refuse(24, value_info.place);
+        };
+        let Some(tensor) = first(model, kind, 1) else {
+            return refuse(24, kind.place);
+        };
+        number_in(model, tensor, 1, 1..=23, 25)?;
+        let Some(shape) = first(model, tensor, 2) else {
+            return refuse(37, tensor.place);
+        };
+        for dim in all(model, shape, 1) {
+            number_in(model, dim, 1, 0..=i64::MAX, 38)?;
+            if let Some(variable) = first(model, dim, 2) {
+                self.identifier(variable)?;
+            }
+        }
+        Ok(())
+    }
+
+    /// The name in the field `number` of `message`: `empty` where it is absent or empty, then 21.
+    fn name(&self, message: Field, number: u32, empty: u64) -> Result<(&'m [u8], usize), Refusal> {
+        let Some(field) = first(self.model, message, number) else {
+            return refuse(empty, message.place);
+        };
+        if field.start == field.end {
+            return refuse(empty, field.place);
+        }
+        self.identifier(field)?;
+        Ok((contents(self.model, field), field.place))
+    }
+
+    fn identifier(&self, field: Field) -> Step {
+        if identifier(contents(self.model, field)) {
+            Ok(())
+        } else {
+            refuse(21, field.place)
+        }
+    }
+
+    fn define(&mut self, message: Field, number: u32) -> Step {
+        let (name, place) = self.name(message, number, 22)?;
+        self.bind(name, place)
+    }
+
+    fn bind(&mut self, name: &'m [u8], place: usize) -> Step {
+        if self.visible.contains(name) {
+            return refuse(23, place);
+        }
+        if self.trail.len() == self.cells {
+            return refuse(40, place);
+        }
+        self.visible.insert(name);
+        self.trail.push(name);
+        self.names = self.names.max(self.trail.len());
+        Ok(())
+    }
+
+    fn use_name(&self, name: &[u8], place: usize, absent: u64) -> Step {
+        if self.visible.contains(name) {
+            Ok(())
+        } else {
+            refuse(absent, place)
+        }
+    }
+}
+
+/// The refusal numbers that document 01 lists, for those who count what was reached.
+pub fn refusal_numbers() -> Vec<u64> {
+    let mut numbers = vec![1, 2, 3, 4, 5, 6, 7, 8, 40];
+    numbers.extend(10..=16);
+    numbers.extend(20..=35);
+    numbers.extend([37, 38]);
+    numbers.sort_unstable();
+    numbers
+}
+
+impl Verdict {
+    pub fn number(self) -> u64 {
+        match self {
+            Verdict::Accepted { .. } => 0,
+            Verdict::Refused { number, .. } => number,
+        }
+    }
+}

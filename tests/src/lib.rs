@@ -1,0 +1,16 @@
+//! Tests of the gate from outside: a checker and a runner written from document 01 alone, a generator of models,
+//! and the comparison of the proved library with them.
+
+pub mod checker;
+pub mod compare;
+#[cfg(feature = "library")]
+pub mod gate;
+pub mod header;
+pub mod models;
+pub mod oplist;
+pub mod parts;
+pub mod rng;
+pub mod rows;
+pub mod runner;
+pub mod schema;
+pub mod wire;

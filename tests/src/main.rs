@@ -1,0 +1,153 @@
+//! The differential run: `gate_tests [--seed N] [--cases N]`, or one case again with `--case N`.
+
+use std::process::ExitCode;
+use std::time::Instant;
+
+use gate_tests::checker::Verdict;
+use gate_tests::compare::{Failure, Outcome, Tally};
+use gate_tests::models::{self, Case};
+use gate_tests::rng::Rng;
+use gate_tests::rows;
+
+struct Settings {
+    seed: u64,
+    cases: u64,
+    /// Only this case, to look at it again.
+    only: Option<u64>,
+}
+
+fn main() -> ExitCode {
+    let settings = match settings() {
+        Ok(settings) => settings,
+        Err(told) => {
+            eprintln!("{told}\nusage: gate_tests [--seed N] [--cases N] [--case N]");
+            return ExitCode::FAILURE;
+        }
+    };
+    let compared =
+        if cfg!(feature = "library") { "library, checker and runner" } else { "checker and runner, no library" };
+    println!("seed {}, {} cases, {compared}", settings.seed, settings.cases);
+    let start = Instant::now();
+    let mut tally = Tally::default();
+    let outcome = run(&settings, &mut tally);
+    report(&tally, start.elapsed().as_secs_f64());
+    if let Err(failure) = outcome {
+        show(&failure);
+        return ExitCode::FAILURE;
+    }
+    let unmet = tally.never_met();
+    if settings.only.is_none() && !unmet.is_empty() {
+        println!("FAILED: never reached: {unmet:?} (few cases reach few numbers)");
+        return ExitCode::FAILURE;
+    }
+    println!("ok: no disagreement");
+    ExitCode::SUCCESS
+}
+
+fn settings() -> Result<Settings, String> {
+    let mut settings = Settings { seed: 20_240_501, cases: 200_000, only: None };
+    let mut words = std::env::args().skip(1);
+    while let Some(word) = words.next() {
+        let value = words.next().ok_or(format!("{word} needs a number"))?;
+        let number = value.parse::<u64>().map_err(|_| format!("{word} needs a number, not {value}"))?;
+        match word.as_str() {
+            "--seed" => settings.seed = number,
+            "--cases" => settings.cases = number,
+            "--case" => settings.only = Some(number),
+            _ => return Err(format!("unknown word {word}")),
+        }
+    }
+    Ok(settings)
+}
+
+fn run(settings: &Settings, tally: &mut Tally) -> Outcome {
+    if let Some(number) = settings.only {
+        return generated(settings.seed, number, tally);
+    }
+    for row in rows::document().iter().chain(&rows::by_hand()) {
+        tally.row(row)?;
+    }
+    short_models(tally)?;
+    neighbours(tally)?;
+    for row in rows::large() {
+        tally.row(&row)?;
+    }
+    for number in 0..settings.cases {
+        generated(settings.seed, number, tally)?;
+    }
+    Ok(())
+}
+
+fn generated(seed: u64, number: u64, tally: &mut Tally) -> Outcome {
+    let case = models::case(seed, number);
+    tally.case(&case, &mut Rng::of_case(seed, !number)).map_err(|mut failure| {
+        failure.label = format!("case {number} of seed {seed}, {}", failure.label);
+        failure
+    })
+}
+
+/// All models of one and two bytes: the wire's edges, whole.
+fn short_models(tally: &mut Tally) -> Outcome {
+    for first in 0..=255u8 {
+        tally.cases += 1;
+        tally.verdict("one byte", &[first], &models::lists::L, 1)?;
+        for second in 0..=255u8 {
+            tally.cases += 1;
+            tally.verdict("two bytes", &[first, second], &models::lists::L, 0)?;
+        }
+    }
+    Ok(())
+}
+
+/// The accepted rows with each byte replaced by each other, taken out, or the last.
+fn neighbours(tally: &mut Tally) -> Outcome {
+    let mut rng = Rng::new(0);
+    for row in rows::document().into_iter().chain(rows::by_hand()) {
+        if !matches!(row.answer, Verdict::Accepted { .. }) || row.model.len() > 64 {
+            continue;
+        }
+        let mut near =
+            Case { label: format!("near row {}", row.name), model: Vec::new(), list: row.list, expected: None };
+        for at in 0..row.model.len() {
+            for byte in 0..=255u8 {
+                near.model.clone_from(&row.model);
+                near.model[at] = byte;
+                tally.case(&near, &mut rng)?;
+            }
+            near.model.clone_from(&row.model);
+            near.model.remove(at);
+            tally.case(&near, &mut rng)?;
+            near.model.clone_from(&row.model);
+            near.model.truncate(at);
+            tally.case(&near, &mut rng)?;
+        }
+    }
+    Ok(())
+}
+
+fn report(tally: &Tally, seconds: f64) {
+    let per_second = tally.cases as f64 / seconds;
+    println!("{} cases, {} verdicts in {seconds:.1} s ({per_second:.0} cases a second)", tally.cases, tally.verdicts);
+    println!("{} bytes of generated models; {} runs of the runner, {} reads", tally.bytes, tally.runs, tally.reads);
+    println!("verdicts by number (0: accepted):");
+    for (number, count) in &tally.numbers {
+        println!("{number:4} {count:9}");
+    }
+}
+
+fn show(failure: &Failure) {
+    let hex = |bytes: &[u8]| bytes.iter().map(|byte| format!("{byte:02X}")).collect::<Vec<_>>().join(" ");
+    println!("DISAGREEMENT: {}", failure.label);
+    println!("  {}", failure.told);
+    match failure.cells {
+        usize::MAX => println!("  cells without bound"),
+        cells => println!("  cells {cells}"),
+    }
+    println!("  list  {}", hex(&failure.list));
+    // A model of 64 MiB is told by its row's name.
+    if failure.model.len() <= 1 << 20 {
+        println!("  model {}", hex(&failure.model));
+    } else {
+        println!("  model of {} bytes, see the row", failure.model.len());
+    }
+}

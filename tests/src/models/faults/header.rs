@@ -1,0 +1,107 @@
+//! Faults of the header: 10 to 15.
+
+use super::Fault;
+use crate::models::lists::alias;
+use crate::models::proto::{Item, Tree, Value};
+use crate::models::wild::EDGES;
+use crate::rng::Rng;
+use crate::schema::Message;
+
+pub const FAULTS: &[Fault] = &[
+    Fault {
+        name: "ir_version 3 or 11",
+        aims: 10,
+        apply: |t, r| {
+            let v = *r.pick(&[3, 11]);
+            set(t, 1, v)
+        },
+    },
+    Fault {
+        name: "an edge as ir_version",
+        aims: 10,
+        apply: |t, r| {
+            let v = *r.pick(&EDGES);
+            set(t, 1, v)
+        },
+    },
+    Fault { name: "no ir_version", aims: 10, apply: |t, _| remove(t, 1) },
+    Fault { name: "no graph", aims: 11, apply: |t, _| remove(t, 7) },
+    Fault { name: "no import", aims: 12, apply: |t, _| remove(t, 8) },
+    Fault { name: "a domain imported twice", aims: 13, apply: import_twice },
+    Fault { name: "a version next to the list's", aims: 14, apply: version_beside },
+    Fault { name: "an edge as version", aims: 14, apply: version_edge },
+    Fault { name: "no version", aims: 14, apply: no_version },
+    Fault { name: "a domain that the list lacks", aims: 14, apply: strange_domain },
+    Fault { name: "functions", aims: 15, apply: functions },
+];
+
+fn set(tree: &mut Tree, number: u32, value: u64) -> bool {
+    tree.set(number, Value::Varint(value));
+    true
+}
+
+fn remove(tree: &mut Tree, number: u32) -> bool {
+    tree.remove(number);
+    true
+}
+
+fn some_import<'t>(tree: &'t mut Tree, rng: &mut Rng) -> Option<&'t mut Tree> {
+    let count = tree.children(8).count();
+    let at = rng.below(count);
+    tree.children_mut(8).nth(at)
+}
+
+/// Once more the same domain, as it is or by the default domain's other name.
+fn import_twice(tree: &mut Tree, rng: &mut Rng) -> bool {
+    let Some(import) = some_import(tree, rng) else {
+        return false;
+    };
+    let mut twin = import.clone();
+    if rng.chance(1, 2) {
+        let other = alias(twin.get_bytes(1).unwrap_or_default());
+        twin.set(1, Value::Bytes(other));
+    }
+    if rng.chance(1, 4) {
+        twin.set(2, Value::Varint(0));
+    }
+    tree.insert(rng, Item::new(8, Value::Tree(twin)));
+    true
+}
+
+fn version_beside(tree: &mut Tree, rng: &mut Rng) -> bool {
+    let step = *rng.pick(&[1, 30, u64::MAX, 1 << 32]);
+    let Some(import) = some_import(tree, rng) else {
+        return false;
+    };
+    for item in &mut import.items {
+        if let (2, Value::Varint(version)) = (item.number, &mut item.value) {
+            *version = version.wrapping_add(step);
+        }
+    }
+    true
+}
+
+fn version_edge(tree: &mut Tree, rng: &mut Rng) -> bool {
+    let edge = *rng.pick(&EDGES);
+    some_import(tree, rng).is_some_and(|import| set(import, 2, edge))
+}
+
+fn no_version(tree: &mut Tree, rng: &mut Rng) -> bool {
+    some_import(tree, rng).is_some_and(|import| remove(import, 2))
+}
+
+fn strange_domain(tree: &mut Tree, rng: &mut Rng) -> bool {
+    let domain: &[u8] = rng.pick::<&[u8]>(&[b"ai", b"ai.onnx2", b"ai.onnxx", b"\x00", b"com"]);
+    let import = Tree::new(Message::OperatorSetId).text(1, domain).number(2, 7);
+    tree.insert(rng, Item::new(8, Value::Tree(import)));
+    true
+}
+
+fn functions(tree: &mut Tree, rng: &mut Rng) -> bool {
+    for _ in 0..1 + rng.below(2) {
+        let count = rng.below(4);
+        let bytes = rng.bytes(count);
+        tree.insert(rng, Item::new(25, Value::Bytes(bytes)));
+    }
+    true
+}

@@ -1,0 +1,302 @@
+//! Models that keep every rule of document 01, made with their true counts.
+
+use super::lists::{self, alias, Entry};
+use super::proto::{Item, Tree, Value};
+use super::wild;
+use crate::oplist;
+use crate::rng::Rng;
+use crate::schema::{Message, DEEPEST_GRAPH};
+
+/// A sound model, a sound list that serves it, and the counts that its acceptance must report.
+#[derive(Clone, Debug)]
+pub struct Made {
+    pub tree: Tree,
+    pub entries: Vec<Entry>,
+    pub nodes: u64,
+    pub names: u64,
+}
+
+pub fn valid(rng: &mut Rng) -> Made {
+    let room = *rng.pick(&[0, 1, 3, 6, 10, 20]);
+    of_size(rng, room)
+}
+
+/// A sound model of at most `room` nodes.
+pub fn of_size(rng: &mut Rng, room: usize) -> Made {
+    let entries = lists::sound(rng);
+    let mut maker = Maker::new(rng, room);
+    let mut tree = Tree::new(Message::Model).number(1, 4 + maker.rng.below(7) as u64);
+    for import in maker.imports(&entries) {
+        tree = tree.tree(8, import);
+    }
+    tree = tree.tree(7, maker.graph(1));
+    let (nodes, names) = (maker.nodes, maker.names as u64);
+    wild::sprinkle(&mut tree, rng);
+    if rng.chance(1, 2) {
+        tree.interleave(rng);
+    }
+    if rng.chance(1, 4) {
+        tree.pad(rng);
+    }
+    Made { tree, entries, nodes, names }
+}
+
+/// Mostly short names of few letters, so that names meet again in sibling bodies and are prefixes of each other.
+pub fn some_name(rng: &mut Rng) -> Vec<u8> {
+    match rng.below(30) {
+        0 => b"int".to_vec(),
+        1 => [b'n'].repeat(126 + rng.below(4)),
+        _ => {
+            let mut name = vec![*rng.pick(b"aw_Z")];
+            for _ in 0..rng.below(3) {
+                name.push(*rng.pick(b"w1_9Z"));
+            }
+            name
+        }
+    }
+}
+
+struct Maker<'r> {
+    rng: &'r mut Rng,
+    /// The imported domains, the default one as the empty bytes.
+    domains: Vec<Vec<u8>>,
+    visible: Vec<Vec<u8>>,
+    nodes: u64,
+    names: usize,
+    /// How many nodes may still be made.
+    room: usize,
+    /// Out of ten attributes, how many hold bodies.
+    bodies: usize,
+}
+
+impl<'r> Maker<'r> {
+    fn new(rng: &'r mut Rng, room: usize) -> Maker<'r> {
+        let bodies = *rng.pick(&[0, 3, 6, 9]);
+        Maker { rng, domains: Vec::new(), visible: Vec::new(), nodes: 0, names: 0, room, bodies }
+    }
+
+    fn imports(&mut self, entries: &[Entry]) -> Vec<Tree> {
+        let mut imports = Vec::new();
+        for (place, entry) in entries.iter().enumerate() {
+            let wanted = place == 0 || self.rng.chance(2, 3);
+            if !wanted {
+                continue;
+            }
+            let version = match self.rng.below(3) {
+                0 => entry.lowest,
+                1 => entry.highest,
+                _ => entry.lowest + self.rng.below((entry.highest - entry.lowest) as usize + 1) as u32,
+            };
+            let import = Tree::new(Message::OperatorSetId).number(2, u64::from(version));
+            imports.push(self.with_domain(import, 1, &entry.domain));
+            self.domains.push(oplist::domain(&entry.domain).to_vec());
+        }
+        imports
+    }
+
+    /// Writes a domain as it is, by its other name, or, where it is the default, not at all.
+    fn with_domain(&mut self, tree: Tree, number: u32, domain: &[u8]) -> Tree {
+        match self.rng.below(3) {
+            0 => tree.text(number, alias(domain)),
+            1 if oplist::domain(domain).is_empty() => tree,
+            _ => tree.text(number, domain),
+        }
+    }
+
+    fn fresh(&mut self) -> Vec<u8> {
+        let mut name = some_name(self.rng);
+        while self.visible.contains(&name) {
+            name.push(*self.rng.pick(b"w1_9Z"));
+        }
+        self.visible.push(name.clone());
+        self.names = self.names.max(self.visible.len());
+        name
+    }
+
+    fn graph(&mut self, depth: u32) -> Tree {
+        let main = depth == 1;
+        let outer = self.visible.len();
+        let mut graph = Tree::new(Message::Graph).text(2, some_name(self.rng));
+        for _ in 0..self.rng.below(3) {
+            let name = self.fresh();
+            graph = graph.tree(11, self.value_info(name, main));
+        }
+        for name in self.initializer_names(outer, main) {
+            graph = graph.tree(5, self.tensor(name));
+        }
+        let mut node_names = Vec::new();
+        for _ in 0..self.rng.below(5).max(usize::from(main)) {
+            if self.room > 0 {
+                graph = graph.tree(1, self.node(depth, &mut node_names));
+            }
+        }
+        for _ in 0..self.rng.below(3) {
+            if !self.visible.is_empty() {
+                let name = self.rng.pick(&self.visible).clone();
+                graph = graph.tree(12, self.value_info(name, main));
+            }
+        }
+        if self.rng.chance(1, 5) {
+            graph = graph.tree(13, wild::tree(self.rng, Message::ValueInfo, 3));
+        }
+        self.visible.truncate(outer);
+        graph
+    }
+
+    /// New names, and in the main graph some of its inputs, each once: their defaults.
+    fn initializer_names(&mut self, outer: usize, main: bool) -> Vec<Vec<u8>> {
+        let mut names = Vec::new();
+        if main {
+            let inputs = self.visible[outer..].to_vec();
+            names.extend(inputs.into_iter().filter(|_| self.rng.chance(1, 3)));
+        }
+        // A few models have hundreds of names.
+        let wide = main && self.rng.chance(1, 100);
+        let more = if wide { 100 + self.rng.below(200) } else { self.rng.below(3) };
+        for _ in 0..more {
+            let name = self.fresh();
+            names.insert(self.rng.below(names.len() + 1), name);
+        }
+        names
+    }
+
+    fn value_info(&mut self, name: Vec<u8>, judged: bool) -> Tree {
+        let info = Tree::new(Message::ValueInfo).text(1, name);
+        if judged || self.rng.chance(1, 4) {
+            info.tree(2, good_type(self.rng))
+        } else if self.rng.chance(1, 3) {
+            // A nested type is opened by the first walk and judged by no rule of the second.
+            info.tree(2, wild::tree(self.rng, Message::Type, 3))
+        } else {
+            info
+        }
+    }
+
+    fn tensor(&mut self, name: Vec<u8>) -> Tree {
+        let data_type = 1 + self.rng.below(23) as u64;
+        let length = if self.rng.chance(1, 400) { 20_000 } else { self.rng.below(4) };
+        Tree::new(Message::Tensor).number(1, 2).number(2, data_type).text(8, name).text(9, vec![0x7f; length])
+    }
+
+    fn node(&mut self, depth: u32, node_names: &mut Vec<Vec<u8>>) -> Tree {
+        self.room -= 1;
+        self.nodes += 1;
+        let mut node = Tree::new(Message::Node);
+        for _ in 0..self.rng.below(3) {
+            let left_out = self.visible.is_empty() || self.rng.chance(1, 6);
+            let name = if left_out { Vec::new() } else { self.rng.pick(&self.visible).clone() };
+            node = node.text(1, name);
+        }
+        let attributes = self.attributes(depth);
+        for _ in 0..1 + self.rng.below(2) {
+            let name = if self.rng.chance(1, 8) { Vec::new() } else { self.fresh() };
+            node = node.text(2, name);
+        }
+        if self.rng.chance(1, 3) {
+            node = node.text(3, unused(self.rng, node_names, true));
+        }
+        node = node.text(4, some_name(self.rng));
+        for attribute in attributes {
+            node = node.tree(5, attribute);
+        }
+        let domain = self.rng.pick(&self.domains).clone();
+        self.with_domain(node, 7, &domain)
+    }
+
+    fn attributes(&mut self, depth: u32) -> Vec<Tree> {
+        let mut names = Vec::new();
+        let mut attributes = Vec::new();
+        for _ in 0..self.rng.below(3) {
+            let name = unused(self.rng, &mut names, false);
+            attributes.push(self.attribute(name, depth));
+        }
+        attributes
+    }
+
+    fn attribute(&mut self, name: Vec<u8>, depth: u32) -> Tree {
+        let deeper = depth < DEEPEST_GRAPH && self.room > 0;
+        let kind =
+            if deeper && self.rng.chance(self.bodies, 10) { *self.rng.pick(&[5, 10]) } else { 1 + self.rng.below(14) };
+        // A type 5 needs its graph, so at the greatest depth another type stands in.
+        let kind = if kind == 5 && depth >= DEEPEST_GRAPH { 7 } else { kind };
+        let mut attribute = Tree::new(Message::Attribute).text(1, name).number(20, kind as u64);
+        if self.rng.chance(1, 8) {
+            attribute = attribute.text(21, b"");
+        }
+        match kind {
+            5 => attribute.tree(6, self.graph(depth + 1)),
+            10 => {
+                let count = if depth < DEEPEST_GRAPH { self.rng.below(4) } else { 0 };
+                (0..count).fold(attribute, |attribute, _| attribute.tree(11, self.graph(depth + 1)))
+            }
+            _ => with_plain_value(self.rng, attribute, kind),
+        }
+    }
+}
+
+/// A name that is not among `taken`, which then holds it; or, where that is allowed, an empty one.
+fn unused(rng: &mut Rng, taken: &mut Vec<Vec<u8>>, may_be_empty: bool) -> Vec<u8> {
+    if may_be_empty && rng.chance(1, 6) {
+        return Vec::new();
+    }
+    let mut name = some_name(rng);
+    while taken.contains(&name) {
+        name.push(b'9');
+    }
+    taken.push(name.clone());
+    name
+}
+
+/// The carrier of every attribute type that holds no graph.
+fn with_plain_value(rng: &mut Rng, mut attribute: Tree, kind: usize) -> Tree {
+    let some = rng.below(3);
+    match kind {
+        1 if some > 0 => attribute.push(2, Value::Four([0, 0, 128, 63])),
+        2 if some > 0 => attribute.push(3, Value::Varint(rng.word())),
+        3 if some > 0 => attribute.push(4, Value::Bytes(b"free bytes \xff".to_vec())),
+        4 => attribute.push(5, Value::Tree(wild::tree(rng, Message::Tensor, 2))),
+        11 => attribute.push(22, Value::Bytes(rng.bytes(some))),
+        13 => attribute.push(14, Value::Bytes(rng.bytes(some))),
+        _ => (0..some).for_each(|_| attribute.items.extend(list_element(rng, kind))),
+    }
+    attribute
+}
+
+/// One field of a list type; floats and ints come one by one or packed, and a packed length is not looked into.
+fn list_element(rng: &mut Rng, kind: usize) -> Option<Item> {
+    let packed = rng.chance(1, 3);
+    let count = rng.below(9);
+    let (number, value) = match kind {
+        6 if packed => (7, Value::Bytes(rng.bytes(count))),
+        6 => (7, Value::Four([1, 2, 3, 4])),
+        7 if packed => (8, Value::Bytes(rng.bytes(count))),
+        7 => (8, Value::Varint(rng.word() >> rng.below(64))),
+        8 => (9, Value::Bytes(rng.bytes(count))),
+        9 => (10, Value::Tree(wild::tree(rng, Message::Tensor, 2))),
+        12 => (23, Value::Bytes(rng.bytes(count))),
+        14 => (15, Value::Bytes(rng.bytes(count))),
+        _ => return None,
+    };
+    Some(Item::new(number, value))
+}
+
+/// A type that the main graph's inputs and outputs may have.
+pub fn good_type(rng: &mut Rng) -> Tree {
+    let mut shape = Tree::new(Message::Shape);
+    for _ in 0..rng.below(4) {
+        let dim = Tree::new(Message::Dimension);
+        shape = shape.tree(
+            1,
+            match rng.below(4) {
+                0 => dim,
+                1 => dim.number(1, rng.word() >> (1 + rng.below(63))),
+                2 => dim.number(1, 0),
+                _ => dim.text(2, some_name(rng)),
+            },
+        );
+    }
+    let tensor = Tree::new(Message::TypeTensor).number(1, 1 + rng.below(23) as u64).tree(2, shape);
+    let kind = Tree::new(Message::Type).tree(1, tensor);
+    // The denotation, field 6, is no member of the "one of" and may repeat.
+    (0..rng.below(3)).fold(kind, |kind, _| kind.text(6, b"DATA_BATCH"))
+}

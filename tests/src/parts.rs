@@ -1,0 +1,46 @@
+//! Parts of a message that the first walk has passed, and the small tests that many rules share.
+
+use std::ops::RangeInclusive;
+
+use crate::checker::Refusal;
+use crate::wire::{fields, Field};
+
+pub type Step = Result<(), Refusal>;
+
+pub fn refuse<T>(number: u64, place: usize) -> Result<T, Refusal> {
+    Err(Refusal { number, place: place as u64 })
+}
+
+/// The field `number` of `message`, read as a signed number, lies in `range`. An absent one reads as 0.
+pub fn number_in(model: &[u8], message: Field, number: u32, range: RangeInclusive<i64>, refusal: u64) -> Step {
+    let (value, place) = match first(model, message, number) {
+        Some(field) => (field.value as i64, field.place),
+        None => (0, message.place),
+    };
+    if range.contains(&value) {
+        Ok(())
+    } else {
+        refuse(refusal, place)
+    }
+}
+
+pub fn all<'m>(model: &'m [u8], message: Field, number: u32) -> impl Iterator<Item = Field> + 'm {
+    fields(model, message.start, message.end).filter(move |field| field.number == number)
+}
+
+pub fn first(model: &[u8], message: Field, number: u32) -> Option<Field> {
+    all(model, message, number).next()
+}
+
+pub fn contents(model: &[u8], field: Field) -> &[u8] {
+    &model[field.start..field.end]
+}
+
+/// A letter or underscore, then letters, digits, underscores, ASCII only.
+pub fn identifier(name: &[u8]) -> bool {
+    let letter = |byte: &u8| byte.is_ascii_alphabetic() || *byte == b'_';
+    match name.split_first() {
+        Some((head, tail)) => letter(head) && tail.iter().all(|byte| letter(byte) || byte.is_ascii_digit()),
+        None => false,
+    }
+}

@@ -1,0 +1,178 @@
+//! Models with known answers: the sample rows of document 01, and rows worked out by hand for its places.
+
+mod by_hand;
+
+pub use by_hand::by_hand;
+
+use crate::checker::Verdict::{self, Accepted, Refused};
+use crate::models::lists::L;
+use crate::models::proto::Tree;
+use crate::schema::Message;
+
+#[derive(Clone, Debug)]
+pub struct Row {
+    pub name: String,
+    pub model: Vec<u8>,
+    pub list: Vec<u8>,
+    pub cells: usize,
+    pub answer: Verdict,
+}
+
+pub const M0: &str = "08 08 42 02 10 0D 3A 03 12 01 67";
+pub const M1: &str = "08 08 42 02 10 0D 3A 0B 12 01 67 0A 06 12 01 61 22 01 58";
+/// M1 with a node that reads its own output, and with one that binds its output twice.
+pub const SELF_READER: &str = "08 08 42 02 10 0D 3A 0E 12 01 67 0A 09 0A 01 61 12 01 61 22 01 58";
+pub const TWICE: &str = "08 08 42 02 10 0D 3A 0E 12 01 67 0A 09 12 01 61 12 01 61 22 01 58";
+
+pub fn hex(text: &str) -> Vec<u8> {
+    text.split_whitespace().map(|byte| u8::from_str_radix(byte, 16).expect("two hex digits")).collect()
+}
+
+fn row(name: &str, model: Vec<u8>, list: &[u8], cells: usize, answer: Verdict) -> Row {
+    Row { name: name.into(), model, list: list.to_vec(), cells, answer }
+}
+
+fn refused(number: u64, place: u64) -> Verdict {
+    Refused { number, place }
+}
+
+fn accepted(nodes: u64, names: u64) -> Verdict {
+    Accepted { nodes, names }
+}
+
+/// The table "Sample models under L" of document 01, all but the two rows of 64 MiB.
+pub fn document() -> Vec<Row> {
+    let nine_ff = "FF FF FF FF FF FF FF FF FF";
+    let mut rows: Vec<Row> = [
+        ("none", "".into(), 0, refused(10, 0)),
+        ("08", "08".into(), 0, refused(1, 0)),
+        ("00", "00".into(), 0, refused(3, 0)),
+        ("0A", "0A".into(), 0, refused(4, 0)),
+        ("08 08 08 08", "08 08 08 08".into(), 0, refused(5, 2)),
+        ("ir_version -1", format!("08 {nine_ff} 01"), 0, refused(10, 0)),
+        ("tenth byte 2", format!("08 {nine_ff} 02"), 0, refused(2, 0)),
+        ("M0", M0.into(), 0, accepted(0, 0)),
+        ("M1, 1 cell", M1.into(), 1, accepted(1, 1)),
+        ("M1, 0 cells", M1.into(), 0, refused(40, 13)),
+        ("M1 that reads itself", SELF_READER.into(), 1, refused(30, 13)),
+        ("M1 that binds twice", TWICE.into(), 1, refused(23, 16)),
+    ]
+    .into_iter()
+    .map(|(name, model, cells, answer): (&str, String, usize, Verdict)| row(name, hex(&model), &L, cells, answer))
+    .collect();
+    for (version, answer) in [(7, accepted(0, 0)), (21, accepted(0, 0)), (6, refused(14, 2)), (22, refused(14, 2))] {
+        rows.push(row("M0 with another import", with_byte(M0, 5, version), &L, 0, answer));
+    }
+    for (version, answer) in [(4, accepted(0, 0)), (10, accepted(0, 0)), (3, refused(10, 0)), (11, refused(10, 0))] {
+        rows.push(row("M0 with another ir_version", with_byte(M0, 1, version), &L, 0, answer));
+    }
+    rows.push(row("graphs nested to 8", nested(8), &L, 0, accepted(7, 0)));
+    let deepest = nested(9);
+    // Below the graph at depth 9 only its name follows, so its tag, 32, is the last byte 32.
+    let place = deepest.iter().rposition(|byte| *byte == 0x32).expect("there is a g") as u64;
+    rows.push(row("graphs nested to 9", deepest, &L, 0, refused(6, place)));
+    rows
+}
+
+fn with_byte(model: &str, at: usize, byte: u8) -> Vec<u8> {
+    let mut model = hex(model);
+    model[at] = byte;
+    model
+}
+
+/// A sound model whose graphs are nested to `depth`, each body in a node whose one output is left out.
+pub fn nested(depth: usize) -> Vec<u8> {
+    let mut graph = Tree::new(Message::Graph).text(2, b"g");
+    for _ in 1..depth {
+        let attribute = Tree::new(Message::Attribute).text(1, b"b").number(20, 5).tree(6, graph);
+        let node = Tree::new(Message::Node).text(2, b"").text(4, b"X").tree(5, attribute);
+        graph = Tree::new(Message::Graph).text(2, b"g").tree(1, node);
+    }
+    let import = Tree::new(Message::OperatorSetId).number(2, 13);
+    Tree::new(Message::Model).number(1, 8).tree(8, import).tree(7, graph).encode()
+}
+
+/// The largest model and one byte more. The first is all zeros in document 01; the other two are a sound model
+/// whose one initializer fills it up.
+pub fn large() -> Vec<Row> {
+    const MOST: usize = 67_108_864;
+    vec![
+        row("64 MiB of zeros", vec![0; MOST], &L, 0, refused(3, 0)),
+        row("64 MiB of zeros, no list", vec![0; MOST], &[], 2, refused(8, 0)),
+        row("64 MiB and a byte, of zeros", vec![0; MOST + 1], &L, 0, refused(7, 0)),
+        row("64 MiB and a byte, no list", vec![0; MOST + 1], &[], 3, refused(7, 0)),
+        row("64 MiB, sound", filled(MOST), &L, 2, accepted(0, 1)),
+        row("64 MiB and a byte, sound but for it", filled(MOST + 1), &L, 2, refused(7, 0)),
+    ]
+}
+
+/// A model of `length` bytes with one initializer, whose contents make up the length.
+fn filled(length: usize) -> Vec<u8> {
+    let with = |count: usize| {
+        let tensor = Tree::new(Message::Tensor).text(8, b"w").number(2, 1).text(9, vec![0xff; count]);
+        let graph = Tree::new(Message::Graph).text(2, b"g").tree(5, tensor);
+        let import = Tree::new(Message::OperatorSetId).number(2, 13);
+        Tree::new(Message::Model).number(1, 8).tree(8, import).tree(7, graph).encode()
+    };
+    // At this size each of the three lengths takes four bytes, so what is not contents does not change.
+    let rest = with(1 << 22).len() - (1 << 22);
+    with(length - rest)
+}
+
+#[cfg(test)]
+mod tests {
+    use super::by_hand::in_graph;
+    use super::*;
+    use crate::checker::check;
+    use crate::runner::{run, End, Read};
+
+    fn holds(rows: Vec<Row>) {
+        for row in rows {
+            assert_eq!(check(&row.model, &row.list, row.cells), row.answer, "{}", row.name);
+        }
+    }
+
+    #[test]
+    fn the_sample_rows_of_document_01() {
+        holds(document());
+    }
+
+    #[test]
+    fn the_rows_of_64_mib() {
+        holds(large());
+    }
+
+    #[test]
+    fn the_rows_by_hand() {
+        holds(by_hand());
+    }
+
+    /// Demand 3 on the rows: accepted models run to their end, and 23, 30 and 35 stop the run at their place.
+    #[test]
+    fn the_runner_on_all_rows() {
+        for row in document().into_iter().chain(by_hand()) {
+            let end = run(&row.model, &[]).end;
+            match row.answer {
+                Accepted { .. } => assert_eq!(end, End::Reached, "{}", row.name),
+                Refused { number: 23 | 30 | 35, place } => assert_eq!(end, End::Stopped { place }, "{}", row.name),
+                Refused { .. } => {}
+            }
+        }
+    }
+
+    /// A body at 24 with an input `i`, a node that reads `i` and the outer `a`, and `i` as its output.
+    #[test]
+    fn a_run_by_hand() {
+        let node_a = "0A 06 12 01 61 22 01 58";
+        let body = "12 01 67 5A 03 0A 01 69 0A 0B 0A 01 69 0A 01 61 12 00 22 01 58 62 03 0A 01 69";
+        let model =
+            in_graph(&format!("12 01 67 {node_a} 0A 2A 12 01 62 22 01 58 2A 22 0A 01 6B A0 01 05 32 1A {body}"));
+        assert_eq!(check(&model, &L, 3), accepted(3, 2));
+        let once = run(&model, &[]);
+        let reads: Vec<(u64, u64)> = once.reads.iter().map(|read| (read.field, read.defined)).collect();
+        assert_eq!((once.end, reads), (End::Reached, vec![(47, 42), (50, 13), (60, 42)]));
+        assert_eq!(run(&model, &[0]).reads, vec![]);
+        let twice: Vec<Read> = once.reads.iter().chain(&once.reads).copied().collect();
+        assert_eq!(run(&model, &[2]).reads, twice);
+    }
+}
