@@ -1,0 +1,64 @@
+// An answer as the line that a program prints: "`accepted nodes 1 names 1` or `refused 30 at 13`".
+ghost use mathlib.Core.Path.{_≡_};
+ghost use mathlib.Core.List.{_++_};
+ghost use Prim.Native.Nat.{_+_, _≤_};
+ghost use lib.ListN.{length, take};
+ghost use Rattle.io.specs.Counts.{Counts};
+ghost use Rattle.gate.specs.Meaning.{meaning};
+ghost use Rattle.report.specs.Line.{decimal, numbersOf, lineOf};
+use gate::Answer;
+
+// Puts the line, its end included, at the start of `out`, and answers how many bytes it has.
+pub fn line(answer: Answer, out: &mut [u8; 64]) -> usize
+    ensures size { λ r. ⌜ Counts r (now (out .exit)) ⌝ }
+    ensures text { λ r. ⌜ take r (now (out .exit)) ≡ lineOf (meaning answer) ⌝ }
+{
+    match answer {
+        Answer::Accepted { nodes, names } => numbers(
+            b"accepted nodes ",
+            nodes,
+            b" names ",
+            names as u64,
+            out,
+        ),
+        Answer::Refused(r) => numbers(b"refused ", r.number as u64, b" at ", r.place as u64, out),
+    }
+}
+
+// Two words, each with a number after it, and the line's end. Words of 23 bytes and two numbers of 20 digits leave room for it.
+fn numbers(first: &[u8], m: u64, second: &[u8], n: u64, out: &mut [u8; 64]) -> usize
+    requires { ⌜ length (now first) + length (now second) ≤ 23 ⌝ }
+    ensures size { λ r. ⌜ Counts r (now (out .exit)) ⌝ }
+    ensures text { λ r. ⌜ take r (now (out .exit)) ≡ numbersOf (now (first .entry)) m (now (second .entry)) n ⌝ }
+{
+    let at = put(first, out, 0);
+    let at = put_number(m, out, at);
+    let at = put(second, out, at);
+    let at = put_number(n, out, at);
+    put(b"\n", out, at)
+}
+
+// Puts `text` after the first `at` bytes, and answers where it ends.
+fn put(text: &[u8], out: &mut [u8], at: usize) -> usize
+    requires { ⌜ at + length (now text) ≤ length (now out) ⌝ }
+    ensures size { λ r. ⌜ r ≡ at + length (now (text .entry)) ⌝ }
+    ensures text { λ r. ⌜ take r (now (out .exit)) ≡ take at (now (out .entry)) ++ now (text .entry) ⌝ }
+{
+    let mut i = 0;
+    while i < text.len() {
+        out[at + i] = text[i];
+        i += 1;
+    }
+    at + i
+}
+
+// The same for a number in decimal digits.
+fn put_number(n: u64, out: &mut [u8], at: usize) -> usize
+    requires { ⌜ at + 20 ≤ length (now out) ⌝ }
+    ensures size { λ r. ⌜ r ≤ at + 20 ⌝ }
+    ensures text { λ r. ⌜ take r (now (out .exit)) ≡ take at (now (out .entry)) ++ decimal n ⌝ }
+{
+    let mut digits = [0u8; 20];
+    let k = io::decimal(n, &mut digits);
+    put(&digits[..k], out, at)
+}
