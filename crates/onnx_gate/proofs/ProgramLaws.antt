@@ -10,7 +10,7 @@ use lib.IntN.{ℤ, pos, negsuc}
 use lib.Signed.{ltZ}
 use Rattle.io.specs.Counts.{Counts}
 use Rattle.io.proofs.Counting.{counts}
-use Rattle.wire.specs.Outcome.{refused}
+use Rattle.wire.specs.Outcome.{_>>_, refused, refuse_at:_when:_}
 use Rattle.wire.specs.Bytes.{Bytes}
 use Rattle.rules.specs.Verdict.{verdict}
 use Rattle.onnx_gate.specs.declared.files.Loaded.{Loaded}
