@@ -5,6 +5,8 @@ use mathlib.Core.Bool.{Bool, true, false}
 use mathlib.Core.List.{List}
 use native.Mathlib.Omega.{arith}
 use borrow.Author.Tests.{ltb-true}
+use lib.ListN.{length, take, drop}
+use lib.Seq.{take-at}
 use lib.Dec.{T}
 use lib.IntN.{ℤ, pos, negsuc}
 use lib.Signed.{ltZ}
@@ -13,6 +15,7 @@ use Rattle.io.proofs.Counting.{counts}
 use Rattle.wire.specs.Outcome.{_>>_, refused, refuse_at:_when:_}
 use Rattle.wire.specs.Bytes.{Bytes}
 use Rattle.rules.specs.Verdict.{verdict}
+use Rattle.report.specs.Line.{over}
 use Rattle.onnx_gate.specs.declared.files.Loaded.{Loaded}
 use Rattle.onnx_gate.specs.Program.{answered, heldOf}
 
@@ -28,6 +31,11 @@ module _ (model list : Bytes) where
   pub both-fit : {m l : Bool} → m ≡ false → l ≡ false → verdict model list 4_096 ≡ answered model m list l
   unfolding answered _>>_ refuse_at:_when:_
   both-fit {m} {l} e d = ap (λ b. answered model false list b) (sym d) ∙ ap (λ b. answered model b list l) (sym e)
+
+-- What is printed of a buffer is the text that was put at its start.
+pub printed : (text out₀ : Bytes) {r : ℕ} {out : Bytes} → r ≡ length text → out ≡ over text out₀ → take r out ≡ text
+unfolding over
+printed text out₀ {r} {out} e d = ap (take r) d ∙ take-at text (drop (length text) out₀) r (sym e)
 
 -- `z` is the number as the code compares it.
 pub held-failed : (size : ℕ) (z : ℤ) {more : ℤ} → z ≡ more → ltZ z (pos 0) ≡ true → record { size = 0; «is_longer» = false } ≡ heldOf size more

@@ -1,9 +1,9 @@
-// The program: two files in, one line out. What it prints is decided by `decide` and spelled by `report::line`, both proved; the
-// rest reads and writes, of which no contract can speak.
+// The program: two files in, one line out. The contract of `reply` says what the line is; the rest reads and writes, of which no
+// contract can speak.
 mod decisions;
 mod files;
 
-use decisions::decide;
+use decisions::reply;
 use files::load;
 use libc::STDOUT_FILENO;
 
@@ -15,13 +15,13 @@ fn main() {
     let modelled = load(b"model.onnx", &mut model);
     let m = modelled.size;
     let l = listed.size;
-    let answer = decide(
+    let mut text = [0u8; 64];
+    let n = reply(
         &model[..m],
         modelled.is_longer,
         &list[..l],
         listed.is_longer,
+        &mut text,
     );
-    let mut text = [0u8; 64];
-    let n = report::line(answer, &mut text);
     io::write_all(STDOUT_FILENO, &text[..n]);
 }

@@ -52,7 +52,7 @@ joined text more out =
 pub and-then : (more : Bytes) {out₀ text : Bytes} {r s : ℕ} {out next : Bytes} → Written out₀ text r out → s ≡ r + length more → next ≡ paste out r more (length more) → Written out₀ (text ++ more) s next
 and-then more {out₀} {text} {r} {s} {out} {next} w d e = record {
   size = d ∙ ap (λ k. k + length more) (w .size) ∙ sym (length-append text more);
-  so-far = e ∙ ap (λ l. paste l r more (length more)) (w .so-far) ∙ ap (λ k. paste (over text out₀) k more (length more)) (w .size) ∙ joined text more out₀
+  so-far = e ∙ ap (λ l. paste l r more (length more)) (w .so-far) ∙ ap (λ k. paste (over text out₀) k more (length more)) (w .size) ∙ joined text more out₀;
 }
 
 -- What a contract says of a text that was put.

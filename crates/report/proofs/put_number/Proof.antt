@@ -26,8 +26,10 @@ returns c =
     let out = c .before .before .before .before .before .before .before .before .args .out .now in
     let told = c .before .before .put .ensures in (
       omega (arith, few (c .before .before .before .before .before), c .before .before .before .before .before .decimal .ensures .0 .1, told .0),
-      (told .0 ∙ ap (λ l. at + length l) (spelled (c .before .before .before .before .before)),
-      told .1 ∙ ap (λ l. paste out at l (length l)) (spelled (c .before .before .before .before .before))),
+      (
+        told .0 ∙ ap (λ l. at + length l) (spelled (c .before .before .before .before .before)),
+        told .1 ∙ ap (λ l. paste out at l (length l)) (spelled (c .before .before .before .before .before)),
+      ),
     )
 
 pub put-number-spec : {M : Type 1} → statement M
