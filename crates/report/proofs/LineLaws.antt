@@ -4,6 +4,7 @@ use mathlib.Core.Path.{_≡_, refl, sym, ap, subst⁻¹, _∙_}
 use mathlib.Core.List.{List, [], _∷_, _++_}
 use native.Mathlib.Omega.{arith}
 use lib.ListN.{length, take, drop, getD, set, length-set, length-append}
+use lib.Seq.{paste, paste-zero, paste-suc, take-length, take-append-seam, drop-append-add, drop-drop}
 use Rattle.wire.specs.Bytes.{Bytes}
 use Rattle.wire.specs.Notation.{ascii}
 use Rattle.wire.specs.declared.Refusal.{Refusal}
@@ -11,7 +12,6 @@ use Rattle.gate.specs.declared.checks.Answer.{Answer}
 use Rattle.gate.specs.declared.checks.Answer.the-variants as answer
 use Rattle.gate.specs.Meaning.{meaning}
 use Rattle.report.specs.Line.{decimal, numbersOf, lineOf, over}
-use lib.Seq.{paste, paste-zero, paste-suc, take-length, take-append-seam, drop-append-add, drop-drop}
 
 -- The first `i` bytes of `text` stand in `out` from `start` on.
 pub record Putting (out₀ : List ℕ) (start : ℕ) (text : List ℕ) (i : ℕ) (out : List ℕ) : Type 0 where
