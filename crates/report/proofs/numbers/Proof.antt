@@ -1,0 +1,26 @@
+use mathlib.Core.List.{[], _∷_}
+use native.Mathlib.Omega.{arith}
+use borrow.Author.Needs.{needs}
+use Rattle.io.proofs.Counting.{counts}
+use Rattle.report.specs.Line.{decimal}
+use Rattle.report.proofs.LineLaws.{nothing-yet, and-then, numbers-written}
+use Rattle.report.proofs.numbers.Statement.{statement}
+use Rattle.report.proofs.numbers.Tie as tie
+
+returns : tie.Need-returns
+returns c =
+    let first = c .before .before .before .before .before .before .before .before .before .before .before .before .before .args .first .now in
+    let second = c .before .before .before .before .before .before .before .before .before .before .before .before .before .args .second .now in
+    let m = c .before .before .before .before .before .before .before .before .before .before .before .before .before .args .m in
+    let n = c .before .before .before .before .before .before .before .before .before .before .before .before .before .args .n in
+    let one = and-then first (nothing-yet (c .before .before .before .before .before .before .before .before .before .before .before .before .before .args .out .now)) (c .before .before .before .before .before .before .before .before .before .put .ensures .0) (c .before .before .before .before .before .before .before .before .before .put .ensures .1) in
+    let two = and-then (decimal m) one (c .before .before .before .before .before .before .before .put-number .ensures .1 .0) (c .before .before .before .before .before .before .before .put-number .ensures .1 .1) in
+    let three = and-then second two (c .before .before .before .before .before .put2 .ensures .0) (c .before .before .before .before .before .put2 .ensures .1) in
+    let four = and-then (decimal n) three (c .before .before .before .put-number2 .ensures .1 .0) (c .before .before .before .put-number2 .ensures .1 .1) in
+    let five = and-then (0x0A ∷ []) four (c .put3 .ensures .0) (c .put3 .ensures .1) in (
+      counts _ _ (omega (arith, c .put3 .ensures .0, c .before .before .before .put-number2 .ensures .0, c .before .before .before .before .before .put2 .ensures .0, c .before .before .before .before .before .before .before .put-number .ensures .0, c .before .before .before .before .before .before .before .before .before .put .ensures .0)),
+      numbers-written first m second n five,
+    )
+
+pub numbers-spec : {M : Type 1} → statement M
+numbers-spec = tie.close (tie.spec (λ c κs. search needs) (λ c κs. search needs) (λ c κs. search needs) (λ c κs. search needs) (λ c. search needs) (λ c κs. search needs) returns)
