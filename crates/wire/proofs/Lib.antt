@@ -6,7 +6,6 @@ pub mod Reading
 pub mod Fields
 pub mod Again
 pub mod VarintLaws
-pub mod Widths
 pub mod SliceLaws
 pub mod CursorLaws
 pub mod Refusing
