@@ -26,18 +26,19 @@ use Rattle.rules.specs.Verdict.{fills}
 use Rattle.rules.specs.Node.{carriers, badValue, body}
 use Rattle.rules.specs.Graph.{output}
 use Rattle.gate.specs.Scope.{scopeIn, walkIn, stepSays, standing, left, grows, Enters, counted, Keeps}
-use Rattle.gate.specs.Answers.{rulingSays}
-use Rattle.gate.specs.Again.{context, attributeRules, nodeRules, opening, closing, attributeAgain, nodeAgain, graphFrom, graphAgain}
-use Rattle.gate.specs.declared.Ruling.{Ruling}
-use Rattle.gate.specs.declared.Ruling.the-variants as ruling
+use Rattle.messages.specs.Answers.{rulingSays}
+use Rattle.messages.specs.Heads.{attributeRules}
+use Rattle.gate.specs.Again.{context, nodeRules, opening, closing, attributeAgain, nodeAgain, graphFrom, graphAgain}
+use Rattle.messages.specs.declared.Ruling.{Ruling}
+use Rattle.messages.specs.declared.Ruling.the-variants as ruling
 use Rattle.gate.specs.declared.scopes.Progress.{Progress}
 use Rattle.gate.specs.declared.scopes.Step.{Step}
 use Rattle.gate.specs.declared.scopes.Step.the-variants as step
 use Rattle.gate.proofs.ScopeLaws.{scope-prefix, keeps-fewer, keeps-then}
-use Rattle.gate.proofs.AttributeLaws.{attribute-value}
+use Rattle.messages.proofs.AttributeLaws.{attribute-value}
 use Rattle.gate.proofs.StepLaws.{Adder}
 use Rattle.gate.proofs.CycleLaws.{Going, enters-low, going-few, going-done, going-stops, going-goes}
-use Rattle.gate.proofs.RulingLaws.{ruled-kept}
+use Rattle.messages.proofs.RulingLaws.{ruled-kept}
 use Rattle.gate.proofs.OpeningLaws.{grows-then, opening-stays}
 use Rattle.gate.proofs.ClosingLaws.{closing-counts}
 use Rattle.gate.proofs.BodyLaws.{bodies-none, bodies-all}

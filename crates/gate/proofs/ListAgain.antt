@@ -16,9 +16,8 @@ use Rattle.rules.specs.Identifier.{identifier}
 use Rattle.rules.specs.Names.{Name, nameOf}
 use Rattle.rules.specs.Walk.{Walk, Along, naming}
 use Rattle.rules.proofs.Matching.{bind-assoc, bind-pass}
-use Rattle.gate.specs.Earlier.{before, namesIn}
-use Rattle.gate.specs.Again.{earlierIn}
-use Rattle.gate.proofs.EarlierLaws.{before-split}
+use Rattle.messages.specs.Earlier.{before, namesIn, earlierIn}
+use Rattle.messages.proofs.EarlierLaws.{before-split}
 
 -- ---- the second walk does what the first does; where they pass, the first has the property
 

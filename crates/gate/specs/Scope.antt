@@ -11,8 +11,8 @@ use Rattle.wire.specs.Wire.{field}
 use Rattle.wire.specs.Message.{text}
 use Rattle.rules.specs.Names.{Name}
 use Rattle.rules.specs.Walk.{Walk}
-use Rattle.gate.specs.declared.Ruling.{Ruling}
-use Rattle.gate.specs.declared.Ruling.the-variants as ruling
+use Rattle.messages.specs.declared.Ruling.{Ruling}
+use Rattle.messages.specs.declared.Ruling.the-variants as ruling
 use Rattle.gate.specs.declared.scopes.Progress.{Progress}
 use Rattle.gate.specs.declared.scopes.Step.{Step}
 use Rattle.gate.specs.declared.scopes.Step.the-variants as step

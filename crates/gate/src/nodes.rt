@@ -2,69 +2,74 @@
 ghost use mathlib.Core.Path.{_≡_};
 ghost use Prim.Native.Nat.{_^_, _<_, _≤_};
 ghost use lib.ListN.{length};
+ghost use Rattle.wire.specs.Outcome.{each};
 ghost use Rattle.wire.specs.Message.{allOf, message};
-ghost use Rattle.schema.specs.Numbers.{Graph·node, Node·name};
-ghost use Rattle.schema.specs.Answers.{silent};
+ghost use Rattle.schema.specs.Numbers.{Node·input};
 ghost use Rattle.rules.specs.Verdict.{fills};
-ghost use Rattle.rules.specs.Node.{nodeName};
+ghost use Rattle.rules.specs.Node.{nodeInput};
+ghost use Rattle.messages.specs.Answers.{rulingSays};
 ghost use Rattle.gate.specs.Scope.{scopeIn, walkIn, stepSays, grows, Keeps};
 ghost use Rattle.gate.specs.Again.{nodeRules, closing};
-ghost use Rattle.gate.specs.Earlier.{before, namesIn};
-ghost use Rattle.gate.specs.Answers.{rulingSays};
-use crate::Ruling;
-use crate::earlier::is_earlier;
-use crate::headers::has;
-use crate::headers::is_imported;
-use crate::names::Naming;
-use crate::names::misnaming;
-use crate::names::node_inputs;
-use crate::names::read_name;
-use crate::numbers::GRAPH_NODE;
-use crate::numbers::NODE_DOMAIN;
-use crate::numbers::NODE_NAME;
-use crate::numbers::NODE_OP_TYPE;
-use crate::numbers::NODE_OUTPUT;
 use crate::outputs::node_outputs;
-use crate::rulings::refused;
 use crate::scopes::Progress;
 use crate::scopes::Step;
+use crate::scopes::is_visible;
 use crate::scopes::stopped;
+use messages::Ruling;
+use messages::has;
+use messages::node_head;
+use messages::numbers::NODE_INPUT;
+use messages::numbers::NODE_OUTPUT;
+use messages::refused;
 use rules::is_identifier;
+use wire::Cursor;
 use wire::Field;
 use wire::Sought;
 
-// "a nonempty node name (21, 29)"
-fn node_name(model: &[u8], graph: Field, node: Field) -> Ruling
-    ensures { λ r. ⌜ rulingSays r ≡ silent (nodeName (now (model .entry)) (namesIn (now (model .entry)) Node·name (before (node .place) (allOf Graph·node (message (now (model .entry)) graph)))) (message (now (model .entry)) node)) ⌝ }
+// "An empty input or output means "left out" and is passed over. Input: 21, 30."
+fn node_input(model: &[u8], cells: &[u32], used: usize, f: Field) -> Ruling
+    ensures { λ r. ⌜ rulingSays r ≡ nodeInput (now (model .entry)) (scopeIn (now (model .entry)) (now (cells .entry)) used) tt f ⌝ }
 {
-    let Sought::Found(name, _) = node.first_of(model, NODE_NAME) else {
-        return Ruling::Kept;
-    };
-    let text = name.text(model);
+    let text = f.text(model);
     if text.len() == 0 {
         return Ruling::Kept;
     }
     if !is_identifier(text) {
-        return refused(Ruling::NOT_IDENTIFIER, name.place);
+        return refused(Ruling::NOT_IDENTIFIER, f.place);
     }
-    if is_earlier(model, graph, GRAPH_NODE, NODE_NAME, node.place, text) {
-        return refused(Ruling::NODE_NAME_TWICE, name.place);
+    if is_visible(model, cells, used, text) {
+        return Ruling::Kept;
     }
-    Ruling::Kept
+    refused(Ruling::INPUT_NOT_VISIBLE, f.place)
+}
+
+fn node_inputs(model: &[u8], cells: &[u32], used: usize, node: Field) -> Ruling
+    ensures { λ r. ⌜ rulingSays r ≡ each (nodeInput (now (model .entry)) (scopeIn (now (model .entry)) (now (cells .entry)) used)) tt (allOf Node·input (message (now (model .entry)) node)) ⌝ }
+{
+    let start = node.start;
+    let end = node.next;
+    let mut c = Cursor {
+        at: start,
+        end: end,
+    };
+    loop {
+        let sought = c.next_of(model, NODE_INPUT);
+        let Sought::Found(f, next) = sought else {
+            return Ruling::Kept;
+        };
+        let ruling = node_input(model, cells, used, f);
+        let Ruling::Kept = ruling else {
+            return ruling;
+        };
+        c = next;
+    }
 }
 
 // "op_type (27, 21); 28; a nonempty node name (21, 29); inputs"
 pub(crate) fn node_rules(model: &[u8], cells: &[u32], used: usize, graph: Field, f: Field) -> Ruling
     ensures { λ r. ⌜ rulingSays r ≡ nodeRules (now (model .entry)) graph (scopeIn (now (model .entry)) (now (cells .entry)) used) f ⌝ }
 {
-    let naming = read_name(model, f, NODE_OP_TYPE, Ruling::OP_TYPE_EMPTY);
-    let Naming::Named(_) = naming else {
-        return misnaming(naming);
-    };
-    if !is_imported(model, f.bytes_of(model, NODE_DOMAIN)) {
-        return refused(Ruling::NOT_IMPORTED, f.place_of(model, NODE_DOMAIN));
-    }
-    let ruling = node_name(model, graph, f);
+    let ruling = node_head(model, graph, f);
     let Ruling::Kept = ruling else {
         return ruling;
     };

@@ -10,7 +10,7 @@ ghost use Rattle.rules.specs.Verdict.{fills};
 ghost use Rattle.rules.specs.Walk.{visible, define};
 ghost use Rattle.gate.specs.Scope.{nameAt, scopeIn, walkIn, stepSays, standing, left, grows, Keeps};
 ghost use Rattle.gate.specs.declared.scopes.Progress.{Progress};
-use crate::Ruling;
+use messages::Ruling;
 use wire::Cursor;
 use wire::FieldAnswer;
 use wire::Refusal;

@@ -6,8 +6,8 @@ ghost use Rattle.report.specs.Line.{lineOf};
 ghost use Rattle.gate.specs.Meaning.{meaning};
 ghost use Rattle.onnx_gate.specs.Program.{answered};
 use gate::Answer;
-use gate::Ruling;
 use gate::check;
+use messages::Ruling;
 use report::line;
 use wire::Refusal;
 

@@ -27,9 +27,9 @@ use Rattle.gate.proofs.graphs.+attribute+graph+node.Lts-graph as graph-
 use Rattle.gate.proofs.graphs.node.Reads as node
 use Rattle.gate.proofs.graphs.node.Kinds as node-kinds
 use Rattle.gate.proofs.graphs.+attribute+graph+node.Lts-node as node-lts
-use Rattle.gate.proofs.attributes.attribute_rules.Reads as attribute-rules-reads
-use Rattle.gate.proofs.carriers.carrier_of.Reads as carrier-of-reads
-use Rattle.gate.proofs.carriers.is_body.Reads as is-body-reads
+use Rattle.messages.proofs.attribute_rules.Reads as attribute-rules-reads
+use Rattle.messages.proofs.carrier_of.Reads as carrier-of-reads
+use Rattle.messages.proofs.is_body.Reads as is-body-reads
 use Rattle.gate.proofs.nodes.closing.Reads as closing-reads
 use Rattle.gate.proofs.nodes.node_rules.Reads as node-rules-reads
 use Rattle.gate.proofs.openings.opening.Reads as opening-reads

@@ -1,6 +1,6 @@
 use mathlib.Core.Path.{_∙_}
 use borrow.Author.Tests.{not-true, not-false}
-use Rattle.gate.specs.Answers.{rulingSays}
+use Rattle.messages.specs.Answers.{rulingSays}
 use Rattle.gate.proofs.OutputLaws.{listed-unnamed, listed-hidden, listed-visible}
 use borrow.Author.Needs.{needs}
 use Rattle.gate.proofs.outputs.graph_output.Statement.{statement}

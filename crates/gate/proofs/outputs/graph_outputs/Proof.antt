@@ -5,8 +5,8 @@ use Rattle.wire.proofs.Along.{allFrom, Along, along-start, along-all, along-don
 use Rattle.schema.specs.Numbers.{Graph·output}
 use Rattle.rules.specs.Graph.{output}
 use Rattle.gate.specs.Scope.{scopeIn}
-use Rattle.gate.specs.Answers.{rulingSays}
-use Rattle.gate.proofs.RulingLaws.{rule-stops, rule-goes}
+use Rattle.messages.specs.Answers.{rulingSays}
+use Rattle.messages.proofs.RulingLaws.{rule-stops, rule-goes}
 use Rattle.gate.proofs.InputLaws.{plain}
 use Rattle.gate.proofs.OutputLaws.{outputs-any}
 use borrow.Author.Needs.{needs}

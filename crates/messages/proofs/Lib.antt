@@ -1,0 +1,10 @@
+pub mod Silent
+pub mod RulingLaws
+pub mod TypeLaws
+pub mod NameLaws
+pub mod EarlierLaws
+pub mod CarrierLaws
+pub mod AttributeLaws
+pub mod NodeLaws
+pub mod ImportLaws
+pub mod HeaderLaws

@@ -1,0 +1,47 @@
+use Prim.Native.Nat.{_-_}
+use mathlib.Core.Path.{_∙_}
+use Rattle.messages.proofs.CarrierLaws.{look-all, Looking, look-start, look-done, look-stop, look-here, look-next, look-falls}
+use borrow.Author.Needs.{needs}
+use Rattle.messages.proofs.carriers.has_foreign.Statement.{statement}
+use Rattle.messages.proofs.carriers.has_foreign.Tie as tie
+
+abbrev Inv-loop : tie.InvT-loop
+Inv-loop model mine start end c₀ c = Looking model mine end start c
+
+abbrev μ-loop : tie.MeasureT-loop
+μ-loop model mine start end c₀ c = end - c .at
+
+loop-holds : tie.Need-loop-holds Inv-loop μ-loop
+loop-holds c = look-start _ _ _
+
+returns : tie.Need-returns Inv-loop μ-loop
+returns c = look-done (c .before .loop .inv) (c .if1 .taken) ∙ look-all _ _ _
+
+returns-2 : tie.Need-returns-2 Inv-loop μ-loop
+returns-2 c = look-stop (c .before .before .before .before .loop .inv) (c .before .before .before .if1 .left) (c .before .before .field .ensures) (c .enum-told .given .1) ∙ look-all _ _ _
+
+returns-3 : tie.Need-returns-3 Inv-loop μ-loop
+returns-3 c = look-here (c .before .before .before .before .before .before .before .loop .inv) (c .before .before .before .before .before .before .if1 .left) (c .before .before .before .before .before .field .ensures) (c .before .before .before .read .given .1) (c .before .is-foreign .ensures) (c .if2 .taken) ∙ look-all _ _ _
+
+loop-less : tie.Need-loop-less Inv-loop μ-loop
+loop-less c = look-falls (c .before .before .before .before .before .before .before .loop .inv) (c .before .before .before .before .before .before .if1 .left) (c .before .before .before .before .before .field .ensures) (c .before .before .before .read .given .1)
+
+loop-again : tie.Need-loop-again Inv-loop μ-loop
+loop-again c = look-next (c .before .before .before .before .before .before .before .loop .inv) (c .before .before .before .before .before .before .if1 .left) (c .before .before .before .before .before .field .ensures) (c .before .before .before .read .given .1) (c .before .is-foreign .ensures) (c .if2 .left)
+
+pub has-foreign-spec : {M : Type 1} → statement M
+has-foreign-spec =
+    tie.close
+    (tie.spec
+    Inv-loop
+    μ-loop
+    loop-holds
+    returns
+    (λ c κs. search needs)
+    (λ c. search needs)
+    (λ c. search needs)
+    returns-2
+    (λ c κs. search needs)
+    returns-3
+    loop-less
+    loop-again)

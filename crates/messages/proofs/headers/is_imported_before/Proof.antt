@@ -1,0 +1,53 @@
+use Prim.Native.Nat.{_-_}
+use lib.ListN.{length}
+use Rattle.wire.specs.Bytes.{member}
+use Rattle.operators.specs.Operators.{domain}
+use Rattle.schema.specs.Numbers.{Model·opset-import}
+use Rattle.messages.specs.Imports.{importOf, importsBefore}
+use Rattle.messages.proofs.EarlierLaws.{Rereading, reread-done, reread-past, reread-here, reread-next, reread-falls}
+use Rattle.messages.proofs.ImportLaws.{imports-again, same-import}
+use borrow.Author.Needs.{needs}
+use Rattle.messages.proofs.headers.is_imported_before.Statement.{statement}
+use Rattle.messages.proofs.headers.is_imported_before.Tie as tie
+
+abbrev Inv-loop : tie.InvT-loop
+Inv-loop model place d end c₀ c = Rereading model Model·opset-import (length model) (importOf model) place (domain d) (member (domain d) (importsBefore model place)) c
+
+abbrev μ-loop : tie.MeasureT-loop
+μ-loop model place d end c₀ c = length model - c .at
+
+loop-holds : tie.Need-loop-holds Inv-loop μ-loop
+loop-holds c = imports-again _ _ _
+
+returns : tie.Need-returns Inv-loop μ-loop
+returns c = reread-done (c .before .before .before .loop .inv) (c .before .before .next-of .ensures) (c .enum-told .given .1)
+
+returns-2 : tie.Need-returns-2 Inv-loop μ-loop
+returns-2 c = reread-past (c .before .before .before .before .before .before .loop .inv) (c .before .before .before .before .before .next-of .ensures) (c .before .before .before .sought .given .1) (c .if1 .taken)
+
+returns-3 : tie.Need-returns-3 Inv-loop μ-loop
+returns-3 c = reread-here (c .before .before .before .before .before .before .before .before .before .loop .inv) (c .before .before .before .before .before .before .before .before .next-of .ensures) (c .before .before .before .before .before .before .sought .given .1) (c .before .before .before .if1 .left) (same-import _ _ _ (c .before .before .bytes-of .ensures) (c .before .same-domain .ensures)) (c .if2 .taken)
+
+loop-less : tie.Need-loop-less Inv-loop μ-loop
+loop-less c = reread-falls (c .before .before .before .before .before .before .before .before .before .loop .inv) (c .before .before .before .before .before .before .before .before .next-of .ensures) (c .before .before .before .before .before .before .sought .given .1)
+
+loop-again : tie.Need-loop-again Inv-loop μ-loop
+loop-again c = reread-next (c .before .before .before .before .before .before .before .before .before .loop .inv) (c .before .before .before .before .before .before .before .before .next-of .ensures) (c .before .before .before .before .before .before .sought .given .1) (c .before .before .before .if1 .left) (same-import _ _ _ (c .before .before .bytes-of .ensures) (c .before .same-domain .ensures)) (c .if2 .left)
+
+pub is-imported-before-spec : {M : Type 1} → statement M
+is-imported-before-spec =
+    tie.close
+    (tie.spec
+    Inv-loop
+    μ-loop
+    loop-holds
+    (λ c κs. search needs)
+    (λ c. search needs)
+    (λ c. search needs)
+    returns
+    returns-2
+    (λ c κs. search needs)
+    (λ c κs. search needs)
+    returns-3
+    loop-less
+    loop-again)

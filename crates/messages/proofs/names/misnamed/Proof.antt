@@ -1,0 +1,14 @@
+use mathlib.Core.Path.{refl}
+use Rattle.messages.specs.Answers.{namingSays}
+use Rattle.messages.proofs.names.misnamed.Statement.{statement}
+use Rattle.messages.proofs.names.misnamed.Tie as tie
+
+returns : tie.Need-returns
+unfolding namingSays
+returns c = λ model. refl
+
+pub misnamed-spec : {M : Type 1} → statement M
+misnamed-spec =
+    tie.close
+    (tie.spec
+    returns)

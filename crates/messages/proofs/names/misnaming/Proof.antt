@@ -1,0 +1,22 @@
+use Rattle.messages.specs.Answers.{rulingSays}
+use Rattle.messages.proofs.NameLaws.{misnaming-refused, misnaming-named}
+use borrow.Author.Needs.{needs}
+use Rattle.messages.proofs.names.misnaming.Statement.{statement}
+use Rattle.messages.proofs.names.misnaming.Tie as tie
+
+returns : tie.Need-returns
+unfolding rulingSays
+returns c = λ model. misnaming-refused model (c .before .n .given .1)
+
+returns-2 : tie.Need-returns-2
+unfolding rulingSays
+returns-2 c = λ model. misnaming-named model (c .enum-told .given .1)
+
+pub misnaming-spec : {M : Type 1} → statement M
+misnaming-spec =
+    tie.close
+    (tie.spec
+    (λ c. search needs)
+    (λ c. search needs)
+    returns
+    returns-2)

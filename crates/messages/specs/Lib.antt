@@ -1,0 +1,4 @@
+pub mod Answers
+pub mod Earlier
+pub mod Imports
+pub mod Heads

@@ -1,0 +1,43 @@
+// What is asked of an attribute before its graphs are judged.
+ghost use mathlib.Core.Path.{_≡_};
+ghost use Rattle.messages.specs.Heads.{attributeRules};
+ghost use Rattle.messages.specs.Answers.{rulingSays};
+use crate::Ruling;
+use crate::carriers::is_bad_value;
+use crate::earlier::is_earlier;
+use crate::names::Naming;
+use crate::names::misnaming;
+use crate::names::read_name;
+use crate::numbers::ATTRIBUTE_NAME;
+use crate::numbers::ATTRIBUTE_REF_ATTR_NAME;
+use crate::numbers::NODE_ATTRIBUTE;
+use crate::rulings::refused;
+use wire::Field;
+
+// "Attribute: 22, 21, 31, 33, 32; then its graphs in order": all but the graphs.
+pub fn attribute_rules(model: &[u8], node: Field, a: Field) -> Ruling
+    ensures { λ r. ⌜ rulingSays r ≡ attributeRules (now (model .entry)) node a ⌝ }
+{
+    let naming = read_name(model, a, ATTRIBUTE_NAME, Ruling::NAME_EMPTY);
+    let Naming::Named(name) = naming else {
+        return misnaming(naming);
+    };
+    if is_earlier(
+        model,
+        node,
+        NODE_ATTRIBUTE,
+        ATTRIBUTE_NAME,
+        a.place,
+        name.text(model),
+    ) {
+        return refused(Ruling::ATTRIBUTE_TWICE, name.place);
+    }
+    let reference = a.bytes_of(model, ATTRIBUTE_REF_ATTR_NAME);
+    if reference.len() != 0 {
+        return refused(Ruling::REFERENCE_PRESENT, a.place);
+    }
+    if is_bad_value(model, a) {
+        return refused(Ruling::BAD_VALUE, a.place);
+    }
+    Ruling::Kept
+}
