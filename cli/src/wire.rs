@@ -10,7 +10,7 @@ pub struct Field {
     /// Where the value starts, after the length if there is one.
     pub value: usize,
     pub end: Option<usize>,
-    /// The number, for wire type 0.
+    /// The number, for wire type 0; the length, for wire type 2.
     pub varint: u64,
 }
 
@@ -40,7 +40,7 @@ pub fn field(bytes: &[u8], at: usize, end: usize) -> Option<Field> {
         1 => f.end = fits(value, 8),
         2 => {
             if let Some((length, next)) = varint(bytes, value, end) {
-                (f.value, f.end) = (next, fits(next, length));
+                (f.varint, f.value, f.end) = (length, next, fits(next, length));
             }
         }
         5 => f.end = fits(value, 4),
