@@ -78,6 +78,11 @@ bad_input() {
     try 1 '*: refused 8 at 0*' '*unsound.lst is not a sound operator list: its first four bytes count 5, and 1 follow them' \
         check --operators unsound.lst "$ok"
     try 1 '' '*unsound.lst is not a sound operator list: *' operators show unsound.lst
+    # a name that would clear the screen
+    printf '\x08\x08\x42\x02\x10\x0D\x3A\x11\x12\x01g\x0A\x0C\x0A\x04\x1B[2J\x12\x01a\x22\x01X' >escape.onnx
+    try 1 '*: refused 21 at 13*"\\u{1b}\[2J"*' '' check escape.onnx
+    "$gate" check "$ok" >/dev/full 2>/dev/null
+    same "status where nothing can be written" $? 2
     "$gate" check - <"$ok" >"$work/out"
     same "standard input" "$(cat "$work/out")" "-: accepted nodes 2 names 4"
     same "a reader that stops" "$("$gate" check "$root"/examples/*.onnx 2>&1 | head -1 | cut -d: -f2)" " refused 1 at 12"

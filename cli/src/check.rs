@@ -2,7 +2,7 @@
 use crate::args::{Check, Operators};
 use crate::explain::{explain, Explanation, Given};
 use crate::text::Paint;
-use crate::{input, json, report, text, DONE, REFUSED, WRONG};
+use crate::{complain, input, json, report, text, DONE, REFUSED, WRONG};
 use onnx_gate::operators;
 use std::ffi::OsStr;
 use std::io::{self, IsTerminal, Write};
@@ -20,10 +20,10 @@ struct Show {
 pub fn run(check: &Check) -> io::Result<u8> {
     let list = match &check.operators {
         Operators::List(list) => list.clone(),
-        Operators::File(file) => match input::read(file) {
+        Operators::File(file) => match input::read_list(file) {
             Ok(list) => list,
             Err(why) => {
-                eprintln!("onnx-gate: {}: {why}", text::file(file));
+                complain(&format!("{}: {why}", text::file(file)));
                 return Ok(WRONG);
             }
         },
@@ -34,25 +34,36 @@ pub fn run(check: &Check) -> io::Result<u8> {
     let mut status = DONE;
     for (i, file) in check.models.iter().enumerate() {
         if progress {
-            eprint!("\r\x1b[K[{}/{}] {}", i + 1, check.models.len(), text::file(file));
+            let name: String = text::file(file).chars().take(60).collect();
+            over(&format!("[{}/{}] {name}", i + 1, check.models.len()));
         }
         let (now, lines) = judged(check, &list, file, &show);
         if progress {
-            eprint!("\r\x1b[K");
+            over("");
         }
         status = status.max(now);
-        if let Err(why) = &lines {
-            eprintln!("onnx-gate: {}: {why}", text::file(file));
-        }
-        let mut out = io::stdout().lock();
-        match lines {
-            Ok(lines) => writeln!(out, "{}", lines.join("\n"))?,
-            Err(why) if show.json => writeln!(out, "{}", json::unreadable(&file.to_string_lossy(), &why))?,
-            Err(_) => {}
-        }
-        out.flush()?;
+        print(file, lines, &show)?;
     }
     Ok(status)
+}
+
+/// Writes over the progress line.
+fn over(text: &str) {
+    let _ = write!(io::stderr(), "\r\x1b[K{text}");
+}
+
+fn print(file: &OsStr, lines: Result<Vec<String>, String>, show: &Show) -> io::Result<()> {
+    let mut out = io::stdout().lock();
+    match lines {
+        Ok(lines) => writeln!(out, "{}", lines.join("\n"))?,
+        Err(why) => {
+            complain(&format!("{}: {why}", text::file(file)));
+            if show.json {
+                writeln!(out, "{}", json::unreadable(&file.to_string_lossy(), &why))?;
+            }
+        }
+    }
+    out.flush()
 }
 
 /// The library refuses every model under an unsound list; whose fault that is should be plain.
@@ -60,7 +71,7 @@ fn warn_of_list(check: &Check, list: &[u8]) {
     if let Operators::File(file) = &check.operators {
         if !operators::is_sound(list) {
             let why = operators::read(list).err().map_or(String::new(), |fault| format!(": {fault}"));
-            eprintln!("onnx-gate: {} is not a sound operator list{why}", text::file(file));
+            complain(&format!("{} is not a sound operator list{why}", text::file(file)));
         }
     }
 }
@@ -72,7 +83,12 @@ fn judged(check: &Check, list: &[u8], file: &OsStr, show: &Show) -> (u8, Result<
         Err(why) => return (WRONG, Err(why)),
     };
     warn_of_size(file, &model);
-    let mut cells = vec![0; check.cells.unwrap_or(model.len() / LEAST_NAME)];
+    let mut cells = Vec::new();
+    let count = check.cells.unwrap_or(model.len() / LEAST_NAME);
+    if cells.try_reserve_exact(count).is_err() {
+        return (WRONG, Err(format!("there is no memory for {count} cells")));
+    }
+    cells.resize(count, 0);
     match onnx_gate::check(&model, list, &mut cells) {
         Ok(accepted) if show.json => (DONE, Ok(vec![json::accepted(&file.to_string_lossy(), accepted)])),
         Ok(accepted) => {
@@ -101,5 +117,5 @@ fn warn_of_size(file: &OsStr, model: &[u8]) {
         n if n as u64 >= input::MOST => "is larger than any model that is accepted; the rest of it is not read",
         _ => return,
     };
-    eprintln!("onnx-gate: {} {said}", text::file(file));
+    complain(&format!("{} {said}", text::file(file)));
 }

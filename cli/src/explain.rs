@@ -145,6 +145,31 @@ mod tests {
         explained(&sound, 30, usize::MAX);
     }
 
+    /// Damaged examples, judged by the library: the field that a refusal names is always found.
+    #[test]
+    fn every_place_is_found() {
+        let list = onnx_gate::operators::write(&crate::args::DEFAULT).unwrap();
+        let mut r = Random(11);
+        let mut met = std::collections::BTreeSet::new();
+        for file in std::fs::read_dir(concat!(env!("CARGO_MANIFEST_DIR"), "/../examples")).unwrap() {
+            let sound = std::fs::read(file.unwrap().path()).unwrap();
+            for round in 0..2_000 {
+                let mut model = sound.clone();
+                for _ in 0..round.min(1 + round % 3) {
+                    let at = r.below(model.len() as u64 + 1) as usize;
+                    model.get_mut(at).into_iter().for_each(|b| *b = r.below(256) as u8);
+                }
+                let Err(refusal) = onnx_gate::check(&model, &list, &mut [0; 8]) else { continue };
+                met.insert(refusal.number);
+                let path = path::find(&model, refusal.place);
+                let found = path.exact || path.unreadable || lacks_a_field(refusal.number, &path);
+                assert!(found, "{refusal} of {model:02x?}");
+                explain(&Given { model: &model, operators: &list, cells: 8 }, refusal);
+            }
+        }
+        assert!(met.len() >= 30, "{met:?}");
+    }
+
     /// Messages in messages, deeper than any that the library opens.
     fn model_of_nested_bytes() -> Vec<u8> {
         let put = |tag: u8, inner: Vec<u8>| {

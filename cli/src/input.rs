@@ -19,9 +19,19 @@ pub fn read(name: &OsStr) -> Result<Vec<u8>, String> {
     start_of(file, about.len()).map_err(plain)
 }
 
+/// The bytes of an operator list. One that is cut would be judged for what it is not, so a longer one is not read.
+pub fn read_list(name: &OsStr) -> Result<Vec<u8>, String> {
+    let list = read(name)?;
+    if list.len() as u64 >= MOST {
+        return Err(format!("has more than {} bytes, too many for an operator list", MOST - 1));
+    }
+    Ok(list)
+}
+
 fn start_of(source: impl Read, size: u64) -> io::Result<Vec<u8>> {
-    // room for it all at once, and the byte at which the reader sees the end
-    let mut bytes = Vec::with_capacity(size.min(MOST) as usize + 1);
+    let mut bytes = Vec::new();
+    // room for it all at once, and a byte more, so that the reader need not grow it to see the end
+    bytes.try_reserve_exact(size.min(MOST) as usize + 1)?;
     source.take(MOST).read_to_end(&mut bytes)?;
     Ok(bytes)
 }

@@ -1,5 +1,5 @@
 //! `onnx-gate operators` and `onnx-gate rules`.
-use crate::{input, text, DONE, REFUSED, WRONG};
+use crate::{complain, input, text, DONE, REFUSED, WRONG};
 use onnx_gate::operators::{self, canonical};
 use std::ffi::OsStr;
 use std::io::{self, Write};
@@ -11,17 +11,17 @@ pub fn write(file: &OsStr, list: &[u8]) -> io::Result<u8> {
         return Ok(DONE);
     }
     if let Err(why) = std::fs::write(file, list) {
-        eprintln!("onnx-gate: {}: {why}", text::file(file));
+        complain(&format!("{}: {why}", text::file(file)));
         return Ok(WRONG);
     }
     Ok(DONE)
 }
 
 pub fn show(file: &OsStr) -> io::Result<u8> {
-    let list = match input::read(file) {
+    let list = match input::read_list(file) {
         Ok(list) => list,
         Err(why) => {
-            eprintln!("onnx-gate: {}: {why}", text::file(file));
+            complain(&format!("{}: {why}", text::file(file)));
             return Ok(WRONG);
         }
     };
@@ -35,7 +35,7 @@ pub fn show(file: &OsStr) -> io::Result<u8> {
         }
         read => {
             let why = read.err().map_or(String::new(), |fault| format!(": {fault}"));
-            eprintln!("onnx-gate: {} is not a sound operator list{why}", text::file(file));
+            complain(&format!("{} is not a sound operator list{why}", text::file(file)));
             Ok(REFUSED)
         }
     }

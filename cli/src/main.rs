@@ -25,11 +25,16 @@ pub const DONE: u8 = 0;
 pub const REFUSED: u8 = 1;
 pub const WRONG: u8 = 2;
 
+/// A message for the one who runs the command. Where it cannot be written there is nobody to tell.
+pub fn complain(message: &str) {
+    let _ = writeln!(std::io::stderr(), "onnx-gate: {message}");
+}
+
 fn main() -> ExitCode {
     let command = match args::parse(std::env::args_os().skip(1)) {
         Ok(command) => command,
         Err(why) => {
-            eprintln!("onnx-gate: {why}");
+            complain(&why);
             return ExitCode::from(WRONG);
         }
     };
@@ -43,7 +48,7 @@ fn main() -> ExitCode {
     ExitCode::from(done.unwrap_or_else(|why| {
         // a reader that has seen enough, as head, needs no message
         if why.kind() != std::io::ErrorKind::BrokenPipe {
-            eprintln!("onnx-gate: {why}");
+            complain(&why.to_string());
         }
         WRONG
     }))

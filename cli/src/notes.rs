@@ -31,7 +31,7 @@ pub fn of(given: &Given, refusal: Refusal, path: &Path, name: Option<&[u8]>) -> 
         13 | 14 => target.and_then(|t| import(given, refusal.number, t)),
         25 => Some(value("elem_type", target.filter(|t| t.is(Kind::TensorType, 1)))),
         26 => Some(value("data_type", target.filter(|t| t.is(Kind::Tensor, 2)))),
-        28 => Some(imports(given.model)),
+        28 => target.map(|t| imports(given.model, t)),
         32 => target.and_then(|t| attribute(given.model, t)),
         38 => Some(value("dim_value", target)),
         40 => Some(format!("there are {} cells", given.cells)),
@@ -76,7 +76,7 @@ fn value(field: &str, target: Option<&Step>) -> String {
 }
 
 /// Domain and version of an import.
-fn imported<'a>(model: &'a [u8], at: usize, end: usize) -> (&'a [u8], u64) {
+fn imported(model: &[u8], at: usize, end: usize) -> (&[u8], u64) {
     let domain = wire::contents(model, at, end, 1).unwrap_or_default();
     (canonical(domain), wire::number(model, at, end, 2).unwrap_or(0))
 }
@@ -94,10 +94,14 @@ fn import(given: &Given, number: u64, target: &Step) -> Option<String> {
     })
 }
 
-fn imports(model: &[u8]) -> String {
+/// The domain of a node that is not imported, and those that are.
+fn imports(model: &[u8], target: &Step) -> String {
+    let held = model.get(target.field.value..target.field.end.unwrap_or(0)).filter(|_| target.is(Kind::Node, 7));
+    let domain = bare(canonical(held.unwrap_or_default()));
     let imports = wire::fields(model, 0, model.len()).filter(|f| f.number == 8 && f.wire == 2);
     let shown = |f: wire::Field| f.end.map(|end| bare(imported(model, f.value, end).0));
-    format!("the model imports {}", imports.filter_map(shown).take(8).collect::<Vec<_>>().join(", "))
+    let shown: Vec<String> = imports.filter_map(shown).take(8).collect();
+    format!("the node's domain is {domain}; the model imports {}", shown.join(", "))
 }
 
 /// The type that an attribute gives, and the values that it holds.
