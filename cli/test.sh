@@ -85,7 +85,7 @@ bad_input() {
     same "status where nothing can be written" $? 2
     "$gate" check - <"$ok" >"$work/out"
     same "standard input" "$(cat "$work/out")" "-: accepted nodes 2 names 4"
-    same "a reader that stops" "$("$gate" check "$root"/examples/*.onnx 2>&1 | head -1 | cut -d: -f2)" " refused 1 at 12"
+    same "a reader that stops" "$("$gate" check "$root"/examples/*.onnx 2>&1 | head -1 | cut -d: -f2 | cut -d" " -f2-4)" "refused 1 at"
 }
 
 # A file of 5 GB within 400 MB of memory; one byte more and none more than the largest model.

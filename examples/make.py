@@ -61,6 +61,11 @@ def initializer(name, data_type=FLOAT, dims=(), raw=bytes(4)):
     return part(5, b"".join(number(1, d) for d in dims) + number(2, data_type) + part(8, name) + part(9, raw))
 
 
+def too_short(name):
+    """A tensor that says it has more data than it has room for."""
+    return part(5, number(2, FLOAT) + part(8, name) + varint(9 << 3 | 2) + varint(64) + bytes(16))
+
+
 def node(op_type, inputs, outputs, *attributes, name="", domain=""):
     out = b"".join(part(1, i) for i in inputs) + b"".join(part(2, o) for o in outputs)
     out += (part(3, name) if name else b"") + part(4, op_type)
@@ -142,7 +147,7 @@ MODELS = {
     "ok-classifier": model(
         layer(node("Scaler", ["x"], ["y"], domain="ai.onnx.ml")), imports=imported() + imported("ai.onnx.ml", 3)),
     "01-truncated": model(chain())[:150],
-    "01-truncated-download": tagger()[:-200],
+    "01-tensor-too-short": model(layer(too_short("b"), DENSE, RELU)),
     "03-not-a-model": b"<html><body>404 Not Found</body></html>\n",
     "04-wrong-field": number(1, 8) + number(7, 1),
     "05-two-graphs": model(chain(), more=part(7, chain())),
