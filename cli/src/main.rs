@@ -17,7 +17,7 @@ mod text;
 mod wire;
 
 use args::Command;
-use std::io::Write;
+use std::io::{IsTerminal, Write};
 use std::process::ExitCode;
 
 /// Exit statuses.
@@ -25,9 +25,12 @@ pub const DONE: u8 = 0;
 pub const REFUSED: u8 = 1;
 pub const WRONG: u8 = 2;
 
-/// A message for the one who runs the command. Where it cannot be written there is nobody to tell.
+/// A message for the one who runs the command. Where it cannot be written there is nobody to tell. On a terminal it
+/// stands in place of the progress line.
 pub fn complain(message: &str) {
-    let _ = writeln!(std::io::stderr(), "onnx-gate: {message}");
+    let mut err = std::io::stderr();
+    let over = if err.is_terminal() { "\r\x1b[K" } else { "" };
+    let _ = writeln!(err, "{over}onnx-gate: {message}");
 }
 
 fn main() -> ExitCode {

@@ -6,13 +6,14 @@ import sys
 
 command, examples = sys.argv[1:]
 files = [f"{examples}/ok-network.onnx", f"{examples}/30-undefined.onnx"]
+empty = f"{examples}/10-empty.onnx"
 
 
-def on_terminal(**changed):
+def on_terminal(*more, **changed):
     """What the command writes where both its outputs are a terminal."""
     ours, theirs = pty.openpty()
     environment = {k: v for k, v in os.environ.items() if k != "NO_COLOR"} | {"TERM": "xterm"} | changed
-    done = subprocess.Popen([command, "check", *files], stdout=theirs, stderr=theirs, stdin=theirs, env=environment)
+    done = subprocess.Popen([command, "check", *files, *more], stdout=theirs, stderr=theirs, stdin=theirs, env=environment)
     os.close(theirs)
     out = b""
     try:
@@ -27,6 +28,7 @@ def on_terminal(**changed):
 coloured = on_terminal()
 assert b"\x1b[32maccepted" in coloured and b"\x1b[1;31mrefused" in coloured, coloured
 assert b"[2/2]" in coloured, coloured
+assert b"\r\x1b[Konnx-gate: " in on_terminal(empty)
 plain = on_terminal(NO_COLOR="1")
 assert b"m" not in plain.split(b"accepted")[0].split(b"\x1b[K")[-1].replace(files[0].encode(), b""), plain
 assert b"\x1b[1;31m" not in plain and b"\x1b[32m" not in plain, plain
