@@ -1,0 +1,14 @@
+//! A model of one's own: `cargo run --offline --example check -- model.onnx`.
+use onnx_gate::{check, operators};
+
+fn main() -> Result<(), Box<dyn std::error::Error>> {
+    let path = std::env::args().nth(1).ok_or("which model?")?;
+    let model = std::fs::read(path)?;
+    let list = operators::write(&[("ai.onnx", 7, 21), ("ai.onnx.ml", 1, 5)])?;
+    let mut cells = vec![0u32; 65_536]; // one for each name that is visible at once
+    match check(&model, &list, &mut cells) {
+        Ok(accepted) => println!("{accepted}"),
+        Err(refusal) => println!("{refusal}: {}", refusal.explanation()),
+    }
+    Ok(())
+}

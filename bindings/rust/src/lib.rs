@@ -1,0 +1,97 @@
+//! The proved gate for Rust: a model is accepted or refused before a runtime sees it.
+//!
+//! The answer is that of the proved library, `libgate_c.a`; nothing here judges a model.
+//!
+//! ```
+//! let list = onnx_gate::operators::write(&[("ai.onnx", 7, 21)]).unwrap();
+//! let model = b"\x08\x08\x42\x02\x10\x0D\x3A\x0B\x12\x01g\x0A\x06\x12\x01a\x22\x01X";
+//! let mut cells = [0u32; 64]; // one for each name that is visible at once
+//! match onnx_gate::check(model, &list, &mut cells) {
+//!     Ok(accepted) => println!("{accepted}"),
+//!     Err(refusal) => println!("{refusal}: {}", refusal.explanation()),
+//! }
+//! ```
+
+pub mod operators;
+mod refusal;
+mod rules;
+
+pub use refusal::Refusal;
+pub use rules::{rule, Rule, RULES};
+
+use std::fmt;
+
+/// A model longer than this is refused with 7.
+pub const LARGEST_MODEL: usize = 67_108_864;
+
+/// The two counts of an acceptance.
+#[derive(Clone, Copy, Debug, PartialEq, Eq)]
+pub struct Accepted {
+    /// Nodes in all graphs.
+    pub nodes: u64,
+    /// The largest number of names visible together.
+    pub names: u64,
+}
+
+impl fmt::Display for Accepted {
+    fn fmt(&self, f: &mut fmt::Formatter<'_>) -> fmt::Result {
+        write!(f, "accepted nodes {} names {}", self.nodes, self.names)
+    }
+}
+
+/// What crosses: `refusal` is 0 for an acceptance.
+#[repr(C)]
+struct Answer {
+    refusal: u64,
+    place: u64,
+    nodes: u64,
+    names: u64,
+}
+
+#[repr(C)]
+struct Part {
+    start: u64,
+    length: u64,
+}
+
+extern "C" {
+    fn onnx_gate_check(
+        model: *const u8,
+        model_length: usize,
+        operators: *const u8,
+        operators_length: usize,
+        cells: *mut u32,
+        cells_length: usize,
+    ) -> Answer;
+    fn onnx_gate_show_name(model: *const u8, model_length: usize, start: u64, length: u64) -> Part;
+}
+
+/// Accepts or refuses `model` for a runtime that has `operators`. All cells are zero afterwards, whatever they held.
+pub fn check(model: &[u8], operators: &[u8], cells: &mut [u32]) -> Result<Accepted, Refusal> {
+    // SAFETY: a Rattle slice is a pointer and a length, never null here. The function only reads the model and
+    // the list, writes only the cells, keeps none of them, and has no precondition.
+    let answer = unsafe {
+        onnx_gate_check(
+            model.as_ptr(),
+            model.len(),
+            operators.as_ptr(),
+            operators.len(),
+            cells.as_mut_ptr(),
+            cells.len(),
+        )
+    };
+    match answer.refusal {
+        0 => Ok(Accepted { nodes: answer.nodes, names: answer.names }),
+        number => Err(Refusal { number, place: answer.place as usize }),
+    }
+}
+
+/// The part of `model` that starts at `start` and has `length` bytes, or the empty part where it does not fit.
+pub fn show_name(model: &[u8], start: usize, length: usize) -> &[u8] {
+    // SAFETY: as above; the function reads nothing but the length.
+    let part = unsafe { onnx_gate_show_name(model.as_ptr(), model.len(), start as u64, length as u64) };
+    &model[part.start as usize..][..part.length as usize]
+}
+
+#[cfg(test)]
+mod tests;

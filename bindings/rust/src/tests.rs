@@ -1,0 +1,91 @@
+//! Document 01's samples through the library, and the parts that are Rust's own.
+use super::operators::{self, ListFault};
+use super::*;
+
+fn list() -> Vec<u8> {
+    operators::write(&[("", 7, 21)]).unwrap()
+}
+
+/// The line for a model, given as hex.
+fn line(hex: &str, cells: usize) -> String {
+    let model: Vec<u8> = hex.split_whitespace().map(|b| u8::from_str_radix(b, 16).unwrap()).collect();
+    let mut cells = vec![0xDEAD_BEEF; cells];
+    let answer = check(&model, &list(), &mut cells);
+    assert!(cells.iter().all(|c| *c == 0), "cells are zero after every answer");
+    answer.map_or_else(|r| r.to_string(), |a| a.to_string())
+}
+
+#[test]
+fn samples_of_document_01() {
+    let m1 = "08 08 42 02 10 0D 3A 0B 12 01 67 0A 06 12 01 61 22 01 58";
+    assert_eq!(line("", 0), "refused 10 at 0");
+    assert_eq!(line("08", 0), "refused 1 at 0");
+    assert_eq!(line("00", 0), "refused 3 at 0");
+    assert_eq!(line("0A", 0), "refused 4 at 0");
+    assert_eq!(line("08 08 08 08", 0), "refused 5 at 2");
+    assert_eq!(line("08 08 42 02 10 0D 3A 03 12 01 67", 0), "accepted nodes 0 names 0");
+    assert_eq!(line(m1, 1), "accepted nodes 1 names 1");
+    assert_eq!(line(m1, 0), "refused 40 at 13");
+    let reader = "08 08 42 02 10 0D 3A 0E 12 01 67 0A 09 0A 01 61 12 01 61 22 01 58";
+    assert_eq!(line(reader, 1), "refused 30 at 13");
+}
+
+#[test]
+fn too_large_comes_first() {
+    let model = vec![0; LARGEST_MODEL + 1];
+    assert_eq!(check(&model, &[], &mut []), Err(Refusal { number: 7, place: 0 }));
+    assert_eq!(check(&model[1..], &[], &mut []), Err(Refusal { number: 8, place: 0 }));
+}
+
+#[test]
+fn names_are_shown() {
+    assert_eq!(show_name(b"model", 1, 3), b"ode");
+    assert_eq!(show_name(b"model", 5, 0), b"");
+    assert_eq!(show_name(b"model", 1, 5), b"");
+    assert_eq!(show_name(b"model", usize::MAX, 2), b"");
+}
+
+#[test]
+fn every_rule_is_said() {
+    let numbers: Vec<u64> = RULES.iter().map(|r| r.number).collect();
+    let document = [1..=8, 10..=16, 20..=35, 37..=38, 40..=40];
+    assert_eq!(numbers, document.into_iter().flatten().collect::<Vec<u64>>());
+    assert!(RULES.iter().all(|r| !r.name.is_empty() && !r.explanation.is_empty() && !r.explanation.contains('\n')));
+    let refusal: Box<dyn std::error::Error> = Box::new(Refusal { number: 30, place: 13 });
+    assert_eq!(refusal.to_string(), "refused 30 at 13");
+    assert_eq!(Refusal { number: 99, place: 0 }.name(), "unknown");
+}
+
+#[test]
+fn lists_are_written_and_read() {
+    assert_eq!(list(), [0, 0, 0, 0x0B, 1, 0, 8, 0, 0, 0, 7, 0, 0, 0, 0x15]);
+    let two = operators::write(&[("ai.onnx", 7, 21), ("ai.onnx.ml", 1, 5)]).unwrap();
+    assert!(operators::is_sound(&two));
+    let read = operators::read(&two).unwrap();
+    assert_eq!((read[1].domain.as_slice(), read[1].lowest, read[1].highest), (&b"ai.onnx.ml"[..], 1, 5));
+    assert_eq!(operators::write::<&str>(&[]).unwrap(), [0, 0, 0, 1, 1]);
+}
+
+#[test]
+fn bad_lists_are_told() {
+    assert_eq!(operators::write(&[("a", 0, 1)]), Err(ListFault::BadVersions("a".into(), 0, 1)));
+    assert_eq!(operators::write(&[("a", 2, 1)]), Err(ListFault::BadVersions("a".into(), 2, 1)));
+    assert_eq!(operators::write(&[("", 1, 1), ("ai.onnx", 1, 1)]), Err(ListFault::DomainTwice("ai.onnx".into())));
+    assert_eq!(operators::write(&[(vec![b'x'; 65528], 1, 1)]), Err(ListFault::DomainTooLong(65528)));
+}
+
+/// The reader of lists and the library agree on what a list is, for every change of one byte and every length.
+#[test]
+fn reader_and_library_agree() {
+    let whole = operators::write(&[("a", 1, 5), ("ai.onnx", 7, 21)]).unwrap();
+    for cut in 0..=whole.len() {
+        assert_eq!(operators::read(&whole[..cut]).is_ok(), operators::is_sound(&whole[..cut]));
+    }
+    for at in 0..whole.len() {
+        for byte in 0..=255 {
+            let mut changed = whole.clone();
+            changed[at] = byte;
+            assert_eq!(operators::read(&changed).is_ok(), operators::is_sound(&changed), "{changed:?}");
+        }
+    }
+}

@@ -1,0 +1,182 @@
+//! What is shown with a refusal. The refusal comes from the library and is not changed here.
+use crate::notes;
+use crate::path::{self, Path};
+use crate::schema::{Holds, Kind};
+use crate::wire;
+use onnx_gate::Refusal;
+use std::ops::Range;
+
+/// How many bytes are shown before the place, and in all.
+const BEFORE: usize = 4;
+const SHOWN: usize = 16;
+
+/// A few bytes of the model around a place, and which of them are the field at fault.
+#[derive(Debug, PartialEq, Eq)]
+pub struct Window<'a> {
+    pub start: usize,
+    pub bytes: &'a [u8],
+    /// Offsets in the model; empty where nothing that stands there is at fault. It may end after what is shown.
+    pub field: Range<usize>,
+}
+
+pub struct Explanation<'a> {
+    /// Absent where the fault is not in the model's fields: 7 and 8.
+    pub path: Option<String>,
+    pub name: Option<&'a [u8]>,
+    pub notes: Vec<String>,
+    pub window: Option<Window<'a>>,
+}
+
+/// What the notes need to know besides the model.
+pub struct Given<'a> {
+    pub model: &'a [u8],
+    pub operators: &'a [u8],
+    pub cells: usize,
+}
+
+pub fn explain<'a>(given: &Given<'a>, refusal: Refusal) -> Explanation<'a> {
+    if matches!(refusal.number, 7 | 8) {
+        return Explanation { path: None, name: None, notes: notes::of_arguments(given, refusal), window: None };
+    }
+    let mut path = path::find(given.model, refusal.place);
+    if lacks_a_field(refusal.number, &path) {
+        path = Path::default();
+    }
+    if refusal.number == 3 {
+        path.without_tag();
+    }
+    let name = name(given.model, refusal.number, &path);
+    Explanation {
+        path: Some(path.shown()),
+        name,
+        notes: notes::of(given, refusal, &path, name),
+        window: Some(window(given.model, refusal.place, &path)),
+    }
+}
+
+/// 10, 11 and 12 are at 0 when the model itself lacks something, whatever field stands at 0.
+fn lacks_a_field(number: u64, path: &Path) -> bool {
+    match number {
+        10 => !path.target().is_some_and(|t| t.is(Kind::Model, 1)),
+        11 | 12 => true,
+        _ => false,
+    }
+}
+
+/// The name at the place, or that of the innermost thing around it that has one. Shown by the library's name service.
+fn name<'a>(model: &'a [u8], number: u64, path: &Path<'a>) -> Option<&'a [u8]> {
+    if number < 13 || matches!(number, 15 | 16 | 20) {
+        return None;
+    }
+    let target = path.target()?;
+    if let (Some((_, _, _, Holds::Name)), 2, Some(end)) = (target.row(), target.field.wire, target.field.end) {
+        let value = target.field.value;
+        let held = onnx_gate::show_name(model, value, end - value);
+        if !held.is_empty() || number == 22 {
+            return Some(held).filter(|n| !n.is_empty());
+        }
+    }
+    path.steps.iter().rev().find_map(|s| s.label).filter(|n| !n.is_empty())
+}
+
+fn window<'a>(model: &'a [u8], place: usize, path: &Path) -> Window<'a> {
+    let start = place.saturating_sub(BEFORE).min(model.len());
+    let end = (start + SHOWN).min(model.len());
+    let field = match path.target() {
+        Some(t) => place..t.field.end.unwrap_or(t.within),
+        None if path.unreadable => place..tag_end(model, place),
+        None => place..place,
+    };
+    Window { start, bytes: &model[start..end], field }
+}
+
+/// Where what stands for a tag ends, as a varint does or as far as one goes.
+fn tag_end(model: &[u8], place: usize) -> usize {
+    wire::varint(model, place, model.len()).map_or((place + 10).min(model.len()), |(_, end)| end)
+}
+
+#[cfg(test)]
+mod tests {
+    use super::*;
+    use crate::samples::{bytes, Random};
+
+    const READER: &str = "08 08 42 02 10 0D 3A 0E 12 01 67 0A 09 0A 01 61 12 01 61 22 01 58";
+
+    fn explained(model: &[u8], number: u64, place: usize) -> Explanation<'_> {
+        explain(&Given { model, operators: &[0, 0, 0, 1, 1], cells: 3 }, Refusal { number, place })
+    }
+
+    #[test]
+    fn a_name_that_is_read_too_early() {
+        let model = bytes(READER);
+        let e = explained(&model, 30, 13);
+        assert_eq!(e.path.as_deref(), Some("graph > node[0] (X) > input[0]"));
+        assert_eq!(e.name, Some(&b"a"[..]));
+        assert_eq!(e.notes, ["defined at graph > node[0] (X) > output[0]"]);
+        assert_eq!(e.window.unwrap(), Window { start: 9, bytes: &model[9..], field: 13..16 });
+    }
+
+    #[test]
+    fn what_the_model_lacks() {
+        assert_eq!(explained(&[], 10, 0).path.as_deref(), Some("model"));
+        let model = bytes("42 02 10 0D");
+        let e = explained(&model, 10, 0);
+        assert_eq!((e.path.as_deref(), e.window.unwrap().field), (Some("model"), 0..0));
+        assert_eq!(e.notes, ["ir_version is absent"]);
+        assert!(explained(&model, 7, 0).path.is_none());
+    }
+
+    /// Any number at any place of any bytes: an explanation never fails.
+    #[test]
+    fn any_bytes_at_any_place() {
+        let mut r = Random(5);
+        let sound = bytes(READER);
+        for round in 0..20_000 {
+            let mut model = sound.clone();
+            for _ in 0..=r.below(4) {
+                let at = r.below(model.len() as u64) as usize;
+                model[at] = if round % 2 == 0 { r.below(256) } else { r.below(64) } as u8;
+            }
+            model.truncate(r.below(model.len() as u64 + 1) as usize);
+            let place = r.below(model.len() as u64 + 3) as usize;
+            explained(&model, r.below(42), place);
+        }
+        explained(&model_of_nested_bytes(), 30, 5_000);
+        explained(&sound, 30, usize::MAX);
+    }
+
+    /// Damaged examples, judged by the library: the field that a refusal names is always found.
+    #[test]
+    fn every_place_is_found() {
+        let list = onnx_gate::operators::write(&crate::args::DEFAULT).unwrap();
+        let mut r = Random(11);
+        let mut met = std::collections::BTreeSet::new();
+        for file in std::fs::read_dir(concat!(env!("CARGO_MANIFEST_DIR"), "/../examples")).unwrap() {
+            let sound = std::fs::read(file.unwrap().path()).unwrap();
+            for round in 0..2_000 {
+                let mut model = sound.clone();
+                for _ in 0..round.min(1 + round % 3) {
+                    let at = r.below(model.len() as u64 + 1) as usize;
+                    model.get_mut(at).into_iter().for_each(|b| *b = r.below(256) as u8);
+                }
+                let Err(refusal) = onnx_gate::check(&model, &list, &mut [0; 8]) else { continue };
+                met.insert(refusal.number);
+                let path = path::find(&model, refusal.place);
+                let found = path.exact || path.unreadable || lacks_a_field(refusal.number, &path);
+                assert!(found, "{refusal} of {model:02x?}");
+                explain(&Given { model: &model, operators: &list, cells: 8 }, refusal);
+            }
+        }
+        assert!(met.len() >= 30, "{met:?}");
+    }
+
+    /// Messages in messages, deeper than any that the library opens.
+    fn model_of_nested_bytes() -> Vec<u8> {
+        let put = |tag: u8, inner: Vec<u8>| {
+            let length = [(inner.len() & 0x7F) as u8 | 0x80, (inner.len() >> 7) as u8 & 0x7F];
+            [&[tag][..], &length, &inner].concat()
+        };
+        let body = (0..1_000).fold(Vec::new(), |inner, _| put(0x0A, put(0x2A, put(0x32, inner))));
+        put(0x3A, body)
+    }
+}

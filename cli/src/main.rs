@@ -1,0 +1,58 @@
+//! `onnx-gate`: one command for people over the proved gate.
+mod args;
+mod check;
+mod definitions;
+mod explain;
+mod help;
+mod input;
+mod json;
+mod lists;
+mod notes;
+mod path;
+mod report;
+#[cfg(test)]
+mod samples;
+mod schema;
+mod text;
+mod wire;
+
+use args::Command;
+use std::io::{IsTerminal, Write};
+use std::process::ExitCode;
+
+/// Exit statuses.
+pub const DONE: u8 = 0;
+pub const REFUSED: u8 = 1;
+pub const WRONG: u8 = 2;
+
+/// A message for the one who runs the command. Where it cannot be written there is nobody to tell. On a terminal it
+/// stands in place of the progress line.
+pub fn complain(message: &str) {
+    let mut err = std::io::stderr();
+    let over = if err.is_terminal() { "\r\x1b[K" } else { "" };
+    let _ = writeln!(err, "{over}onnx-gate: {message}");
+}
+
+fn main() -> ExitCode {
+    let command = match args::parse(std::env::args_os().skip(1)) {
+        Ok(command) => command,
+        Err(why) => {
+            complain(&why);
+            return ExitCode::from(WRONG);
+        }
+    };
+    let done = match &command {
+        Command::Say(text) => std::io::stdout().write_all(text.as_bytes()).map(|()| DONE),
+        Command::Check(what) => check::run(what),
+        Command::Write { file, list } => lists::write(file, list),
+        Command::Show { file } => lists::show(file),
+        Command::Rules => lists::rules(),
+    };
+    ExitCode::from(done.unwrap_or_else(|why| {
+        // a reader that has seen enough, as head, needs no message
+        if why.kind() != std::io::ErrorKind::BrokenPipe {
+            complain(&why.to_string());
+        }
+        WRONG
+    }))
+}

@@ -1,0 +1,129 @@
+//! Lines that say more about one refusal: the value found, what the list allows, where a name is defined.
+use crate::definitions;
+use crate::explain::Given;
+use crate::path::{self, Path, Step};
+use crate::schema::Kind;
+use crate::text::{bare, quoted, signed};
+use crate::wire;
+use onnx_gate::operators::{self, canonical};
+use onnx_gate::Refusal;
+
+/// How many definitions are named.
+const NAMED: usize = 3;
+
+/// For 7 and 8, which are not about the model's fields.
+pub fn of_arguments(given: &Given, refusal: Refusal) -> Vec<String> {
+    match (refusal.number, operators::read(given.operators)) {
+        (8, Err(fault)) => vec![fault.to_string()],
+        _ => vec![],
+    }
+}
+
+pub fn of(given: &Given, refusal: Refusal, path: &Path, name: Option<&[u8]>) -> Vec<String> {
+    let target = path.target();
+    let note = match refusal.number {
+        1 => target.and_then(too_long),
+        3 => no_tag(given.model, refusal.place),
+        4 => target.map(|t| format!("it has wire type {}", t.field.wire)),
+        5 => target.and_then(|t| earlier(given.model, t, |f| f.number == t.field.number)),
+        10 => Some(value("ir_version", target.filter(|t| t.is(Kind::Model, 1)))),
+        29 | 31 => path.steps.iter().nth_back(1).and_then(|t| namesake(given.model, t)),
+        13 | 14 => target.and_then(|t| import(given, refusal.number, t)),
+        25 => Some(value("elem_type", target.filter(|t| t.is(Kind::TensorType, 1)))),
+        26 => Some(value("data_type", target.filter(|t| t.is(Kind::Tensor, 2)))),
+        28 => target.map(|t| imports(given.model, t)),
+        32 => target.and_then(|t| attribute(given.model, t)),
+        38 => Some(value("dim_value", target)),
+        40 => Some(format!("there are {} cells", given.cells)),
+        23 | 30 | 35 => return name.map_or(vec![], |n| defined(given.model, path, n)),
+        _ => None,
+    };
+    note.into_iter().collect()
+}
+
+/// A length that runs past its message, as in a file that was cut.
+fn too_long(target: &Step) -> Option<String> {
+    let f = target.field;
+    let left = target.within.checked_sub(f.value)?;
+    let cut = f.wire == 2 && f.end.is_none() && f.varint > left as u64;
+    cut.then(|| format!("the field says {} bytes, and {left} are left in its message", f.varint))
+}
+
+fn no_tag(model: &[u8], place: usize) -> Option<String> {
+    let (tag, _) = wire::varint(model, place, model.len())?;
+    Some(format!("as a tag it says field {} of wire type {}", tag >> 3, tag & 7))
+}
+
+/// The first field before `step` in its message that is alike.
+fn earlier(model: &[u8], step: &Step, alike: impl Fn(&wire::Field) -> bool) -> Option<String> {
+    let mut before = wire::fields(model, step.from, step.within).take_while(|f| f.tag < step.field.tag);
+    let first = before.find(alike)?.tag;
+    Some(format!("first at {first}, {}", path::find(model, first).shown()))
+}
+
+/// The earlier node or attribute that has the same name.
+fn namesake(model: &[u8], step: &Step) -> Option<String> {
+    let number = if step.is(Kind::Graph, 1) { Kind::Node.label() } else { Kind::Attribute.label() }?;
+    let named = |f: &wire::Field| f.end.and_then(|end| wire::contents(model, f.value, end, number));
+    earlier(model, step, |f| f.number == step.field.number && f.wire == 2 && named(f) == step.label)
+}
+
+fn value(field: &str, target: Option<&Step>) -> String {
+    match target {
+        Some(t) => format!("{field} is {}", signed(t.field.varint)),
+        None => format!("{field} is absent"),
+    }
+}
+
+/// Domain and version of an import.
+fn imported(model: &[u8], at: usize, end: usize) -> (&[u8], u64) {
+    let domain = wire::contents(model, at, end, 1).unwrap_or_default();
+    (canonical(domain), wire::number(model, at, end, 2).unwrap_or(0))
+}
+
+fn import(given: &Given, number: u64, target: &Step) -> Option<String> {
+    let (domain, version) = imported(given.model, target.field.value, target.field.end?);
+    let found = format!("{} version {}", bare(domain), signed(version));
+    if number == 13 {
+        return Some(format!("{found}, imported before"));
+    }
+    let entries = operators::read(given.operators).unwrap_or_default();
+    Some(match entries.iter().find(|e| canonical(&e.domain) == domain) {
+        Some(e) => format!("{found}; the list allows {} to {}", e.lowest, e.highest),
+        None => format!("{found}; the list does not have this domain"),
+    })
+}
+
+/// The domain of a node that is not imported, and those that are.
+fn imports(model: &[u8], target: &Step) -> String {
+    let held = model.get(target.field.value..target.field.end.unwrap_or(0)).filter(|_| target.is(Kind::Node, 7));
+    let domain = bare(canonical(held.unwrap_or_default()));
+    let imports = wire::fields(model, 0, model.len()).filter(|f| f.number == 8 && f.wire == 2);
+    let shown = |f: wire::Field| f.end.map(|end| bare(imported(model, f.value, end).0));
+    let shown: Vec<String> = imports.filter_map(shown).take(8).collect();
+    format!("the node's domain is {domain}; the model imports {}", shown.join(", "))
+}
+
+/// The type that an attribute gives, and the values that it holds.
+fn attribute(model: &[u8], target: &Step) -> Option<String> {
+    let (at, end) = (target.field.value, target.field.end?);
+    let kind = wire::number(model, at, end, 20).map_or("absent".into(), |t| signed(t).to_string());
+    let mut held: Vec<&str> = wire::fields(model, at, end)
+        .filter(|f| matches!(f.number, 2..=11 | 14 | 15 | 22 | 23))
+        .filter_map(|f| Kind::Attribute.row(f.number).map(|r| r.1))
+        .collect();
+    held.sort_unstable();
+    held.dedup();
+    let held = if held.is_empty() { "nothing".into() } else { held.join(", ") };
+    Some(format!("type is {kind}; the attribute holds {held}"))
+}
+
+/// Where else the name is defined: later, in another branch, or nowhere.
+fn defined(model: &[u8], path: &Path, name: &[u8]) -> Vec<String> {
+    let itself = |place: &usize| path.steps.iter().any(|s| s.field.tag == *place);
+    let places: Vec<usize> = definitions::of(model, name).into_iter().filter(|p| !itself(p)).collect();
+    if places.is_empty() {
+        return vec![format!("nothing in the model defines {}", quoted(name))];
+    }
+    places.iter().take(NAMED).map(|p| format!("defined at {}", path::find(model, *p).shown())).collect()
+}

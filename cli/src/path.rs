@@ -1,0 +1,152 @@
+//! From a byte's offset to the path in the model's own terms: `graph > node[3] "conv1" > output[0]`.
+use crate::schema::{Holds, Kind, Row};
+use crate::text;
+use crate::wire::{self, Field};
+
+/// Eight graphs, each in an attribute of a node, and the dim of a type: the library names nothing deeper.
+const DEEPEST: usize = 64;
+
+/// A field on the way.
+#[derive(Clone, Copy)]
+pub struct Step<'a> {
+    /// The message that the field stands in, and where that starts and ends.
+    pub of: Kind,
+    pub from: usize,
+    pub within: usize,
+    pub field: Field,
+    /// How many of its number stand before it in its message.
+    index: usize,
+    /// The name that the message in the field has, if it is one that has names.
+    pub label: Option<&'a [u8]>,
+    /// For a node with no name.
+    op_type: Option<&'a [u8]>,
+}
+
+impl Step<'_> {
+    pub fn row(&self) -> Option<&'static Row> {
+        self.of.row(self.field.number)
+    }
+
+    pub fn is(&self, of: Kind, number: u64) -> bool {
+        self.of == of && self.field.number == number
+    }
+
+    fn shown(&self) -> String {
+        let Some((_, name, many, _)) = self.row() else {
+            return format!("field {}", self.field.number);
+        };
+        let index = if *many { format!("[{}]", self.index) } else { String::new() };
+        let label = match (self.label, self.op_type) {
+            (Some(label), _) if !label.is_empty() => format!(" {}", text::quoted(label)),
+            (_, Some(op)) => format!(" ({})", text::bare(op)),
+            _ => String::new(),
+        };
+        format!("{name}{index}{label}")
+    }
+}
+
+/// The way to a place. `exact` where a field starts there; `unreadable` where bytes stand there that are no tag.
+#[derive(Default)]
+pub struct Path<'a> {
+    pub steps: Vec<Step<'a>>,
+    pub exact: bool,
+    pub unreadable: bool,
+}
+
+impl<'a> Path<'a> {
+    /// The field that starts at the place.
+    pub fn target(&self) -> Option<&Step<'a>> {
+        self.steps.last().filter(|_| self.exact)
+    }
+
+    /// What stands at the place is no tag, whatever field it would be.
+    pub fn without_tag(&mut self) {
+        if self.exact {
+            self.steps.pop();
+            (self.exact, self.unreadable) = (false, true);
+        }
+    }
+
+    pub fn shown(&self) -> String {
+        let mut parts: Vec<String> = self.steps.iter().map(Step::shown).collect();
+        if parts.is_empty() {
+            parts.push("model".into());
+        }
+        if self.unreadable {
+            parts.push("(unreadable tag)".into());
+        }
+        parts.join(" > ")
+    }
+}
+
+/// Follows the fields around `place` from the model down.
+pub fn find(model: &[u8], place: usize) -> Path<'_> {
+    let mut path = Path::default();
+    let (mut kind, mut at, mut end) = (Kind::Model, 0, model.len());
+    while path.steps.len() < DEEPEST {
+        let Some(field) = around(model, at, end, place) else {
+            path.unreadable = (at..end).contains(&place);
+            return path;
+        };
+        path.steps.push(step(model, kind, (at, end), field));
+        path.exact = field.tag == place;
+        let inner = kind.row(field.number).map(|r| r.3);
+        match (inner, field.wire, field.end) {
+            (Some(Holds::Message(inner)), 2, Some(stop)) if !path.exact && field.value <= place => {
+                (kind, at, end) = (inner, field.value, stop);
+            }
+            _ => return path,
+        }
+    }
+    path
+}
+
+/// The field of the message `model[at..end]` that `place` lies in.
+fn around(model: &[u8], at: usize, end: usize, place: usize) -> Option<Field> {
+    wire::fields(model, at, end)
+        .take_while(|f| f.tag <= place)
+        .find(|f| f.end.is_none_or(|stop| place < stop))
+}
+
+fn step(model: &[u8], of: Kind, (at, end): (usize, usize), field: Field) -> Step<'_> {
+    let before = wire::fields(model, at, end).take_while(|f| f.tag < field.tag);
+    let index = before.filter(|f| f.number == field.number).count();
+    let mut step = Step { of, from: at, within: end, field, index, label: None, op_type: None };
+    if let (Some((_, _, _, Holds::Message(kind))), 2, Some(stop)) = (step.row(), field.wire, field.end) {
+        let part = |number| wire::contents(model, field.value, stop, number);
+        step.label = kind.label().and_then(part);
+        step.op_type = Some(4).filter(|_| *kind == Kind::Node).and_then(part);
+    }
+    step
+}
+
+#[cfg(test)]
+mod tests {
+    use super::*;
+
+    fn model() -> Vec<u8> {
+        crate::samples::bytes("08 08 42 02 10 0D 3A 0E 12 01 67 0A 09 0A 01 61 12 01 61 22 01 58")
+    }
+
+    #[test]
+    fn paths_of_a_small_model() {
+        let m = model();
+        let shown = |place| find(&m, place).shown();
+        assert_eq!(shown(0), "ir_version");
+        assert_eq!(shown(2), "opset_import[0]");
+        assert_eq!(shown(4), "opset_import[0] > version");
+        assert_eq!(shown(11), "graph > node[0] (X)");
+        assert_eq!(shown(13), "graph > node[0] (X) > input[0]");
+        assert_eq!(shown(16), "graph > node[0] (X) > output[0]");
+        assert_eq!(shown(999), "model");
+    }
+
+    #[test]
+    fn what_cannot_be_read() {
+        let cut = &model()[..12];
+        assert_eq!(find(cut, 6).shown(), "graph");
+        assert!(find(&[0xFF; 3], 0).unreadable);
+        assert_eq!(find(&[0x00], 0).shown(), "field 0");
+        assert_eq!(find(&[], 0).shown(), "model");
+    }
+}

@@ -1,0 +1,198 @@
+#!/usr/bin/env python3
+"""Writes the example models beside this file, or into the folder that is given. Standard library only: the bytes are put together here.
+
+A file's name says what it shows: NN-words.onnx is refused with NN, ok-words.onnx is accepted.
+"""
+import sys
+from pathlib import Path
+
+FLOAT, INT64, BOOL = 1, 7, 9  # data types
+INT, GRAPH = 2, 5  # attribute types
+
+
+def varint(value):
+    value &= 2**64 - 1
+    out = bytearray()
+    while value >= 0x80:
+        out.append(value & 0x7F | 0x80)
+        value >>= 7
+    out.append(value)
+    return bytes(out)
+
+
+def number(field, value):
+    return varint(field << 3) + varint(value)
+
+
+def part(field, contents):
+    """A field of text or of a message."""
+    contents = contents.encode() if isinstance(contents, str) else contents
+    return varint(field << 3 | 2) + varint(len(contents)) + contents
+
+
+def imported(domain="", version=13):
+    return part(8, (part(1, domain) if domain else b"") + number(2, version))
+
+
+def model(graph, ir_version=8, imports=imported(), more=b""):
+    return number(1, ir_version) + part(2, "examples") + part(7, graph) + imports + more
+
+
+def graph(name, *fields):
+    return part(2, name) + b"".join(fields)
+
+
+def typed(name, elem_type=FLOAT, dims=("batch", 4)):
+    """A value with its type; a dim is a number or a variable."""
+    shape = b"".join(part(1, part(2, d) if isinstance(d, str) else number(1, d)) for d in dims)
+    tensor = number(1, elem_type) + part(2, shape)
+    return part(1, name) + part(2, part(1, tensor))
+
+
+def graph_input(name, **kind):
+    return part(11, typed(name, **kind))
+
+
+def graph_output(name, **kind):
+    return part(12, typed(name, **kind))
+
+
+def initializer(name, data_type=FLOAT, dims=(), raw=bytes(4)):
+    return part(5, b"".join(number(1, d) for d in dims) + number(2, data_type) + part(8, name) + part(9, raw))
+
+
+def too_short(name):
+    """A tensor that says it has more data than it has room for."""
+    return part(5, number(2, FLOAT) + part(8, name) + varint(9 << 3 | 2) + varint(64) + bytes(16))
+
+
+def node(op_type, inputs, outputs, *attributes, name="", domain=""):
+    out = b"".join(part(1, i) for i in inputs) + b"".join(part(2, o) for o in outputs)
+    out += (part(3, name) if name else b"") + part(4, op_type)
+    out += b"".join(part(5, a) for a in attributes)
+    return part(1, out + (part(7, domain) if domain else b""))
+
+
+def integer(name, value):
+    return part(1, name) + number(3, value) + number(20, INT)
+
+
+def body(name, inner):
+    return part(1, name) + part(6, inner) + number(20, GRAPH)
+
+
+def branch(name, *nodes, output):
+    return graph(name, *nodes, graph_output(output, dims=()))
+
+
+def tagger(step=None, then_branch=None, else_branch=None):
+    """Reads words one by one and keeps a state; the Loop's body chooses with an If how to change it. The state that
+    the body gets and the words are read from inside the branches."""
+    then_branch = then_branch or branch(
+        "known", node("Add", ["state", "word"], ["sum"], name="add"), node("Tanh", ["sum"], ["next_known"]),
+        output="next_known")
+    else_branch = else_branch or branch(
+        "unknown", node("Mul", ["state", "decay"], ["next_unknown"], name="fade"), output="next_unknown")
+    step = step or graph(
+        "step",
+        graph_input("i", elem_type=INT64, dims=()), graph_input("going", elem_type=BOOL, dims=()),
+        graph_input("state", dims=(4,)),
+        node("Gather", ["words", "i"], ["word"], integer("axis", 0), name="pick"),
+        node("Less", ["word", "limit"], ["is_known"]),
+        node("If", ["is_known"], ["next"], body("then_branch", then_branch), body("else_branch", else_branch),
+             name="choose"),
+        node("Identity", ["going"], ["still_going"]),
+        node("Identity", ["next"], ["tag"]),
+        graph_output("still_going", elem_type=BOOL, dims=()), graph_output("next"), graph_output("tag"))
+    return model(graph(
+        "tagger",
+        graph_input("words", dims=("length", 4)),
+        initializer("limit"), initializer("decay"), initializer("start", dims=(4,), raw=bytes(16)),
+        initializer("turns", INT64, raw=bytes(8)),
+        node("Loop", ["turns", "", "start"], ["end", "tags"], body("body", step), name="over_words"),
+        graph_output("tags", dims=("length", 4))))
+
+
+def layer(*nodes, inputs=None, outputs=None):
+    """A small network: weights `w` and the given nodes between `x` and `y`."""
+    fields = inputs or [graph_input("x")]
+    fields += [initializer("w", dims=(4, 4), raw=bytes(64)), *nodes]
+    return graph("network", *fields, *(outputs or [graph_output("y")]))
+
+
+def chain(**more):
+    return layer(node("MatMul", ["x", "w"], ["h"], name="dense1"), node("Relu", ["h"], ["y"], name="relu1"), **more)
+
+
+def reads_the_other_branch():
+    """The else-branch reads what only the then-branch defines."""
+    return tagger(else_branch=branch(
+        "unknown", node("Tanh", ["sum"], ["next_unknown"], name="fade"), output="next_unknown"))
+
+
+def nested(depth):
+    inner = graph(f"depth_{depth}")
+    for level in range(depth - 1, 0, -1):
+        inner = graph(f"depth_{level}", node("Loop", [], [f"out_{level}"], body("body", inner)))
+    return model(inner)
+
+
+RELU = node("Relu", ["h"], ["y"], name="relu1")
+DENSE = node("MatMul", ["x", "w"], ["h"], name="dense1")
+
+MODELS = {
+    "ok-tagger": tagger(),
+    "ok-network": model(chain()),
+    "ok-default-value": model(chain(inputs=[graph_input("x"), graph_input("w", dims=(4, 4))])),
+    "ok-classifier": model(
+        layer(node("Scaler", ["x"], ["y"], domain="ai.onnx.ml")), imports=imported() + imported("ai.onnx.ml", 3)),
+    "01-truncated": model(chain())[:150],
+    "01-tensor-too-short": model(layer(too_short("b"), DENSE, RELU)),
+    "03-not-a-model": b"<html><body>404 Not Found</body></html>\n",
+    "04-wrong-field": number(1, 8) + number(7, 1),
+    "05-two-graphs": model(chain(), more=part(7, chain())),
+    "06-too-deep": nested(9),
+    "10-old-ir-version": model(chain(), ir_version=3),
+    "10-empty": b"",
+    "11-no-graph": number(1, 8) + imported(),
+    "12-no-opset": model(chain(), imports=b""),
+    "13-imported-twice": model(chain(), imports=imported("", 13) + imported("ai.onnx", 13)),
+    "14-opset-too-new": model(chain(), imports=imported(version=22)),
+    "14-unknown-domain": model(chain(), imports=imported() + imported("com.example", 1)),
+    "15-functions": model(chain(), more=part(25, part(1, "my_function"))),
+    "16-sparse-initializer": model(layer(DENSE, RELU, part(15, b""))),
+    "20-graph-without-name": model(chain()[len(part(2, "network")):]),
+    "21-name-with-slash": model(layer(node("MatMul", ["x", "w"], ["/dense/out"]), node("Relu", ["/dense/out"], ["y"]))),
+    "22-input-without-name": model(chain(inputs=[graph_input("")])),
+    "23-defined-twice": model(layer(DENSE, node("Tanh", ["h"], ["h"], name="tanh1"), RELU)),
+    "24-output-without-type": model(chain(outputs=[part(12, part(1, "y"))])),
+    "25-bad-element-type": model(chain(inputs=[graph_input("x", elem_type=0)])),
+    "26-bad-data-type": model(layer(initializer("b", data_type=99), DENSE, RELU)),
+    "27-node-without-operator": model(layer(node("", ["x"], ["y"], name="nothing"))),
+    "28-domain-not-imported": model(layer(node("Scaler", ["x"], ["y"], name="scale", domain="ai.onnx.ml"))),
+    "29-two-nodes-one-name": model(layer(DENSE, node("Relu", ["h"], ["y"], name="dense1"))),
+    "30-undefined": model(layer(DENSE, node("Add", ["h", "bias"], ["y"], name="add1"))),
+    "30-wrong-order": model(layer(RELU, DENSE)),
+    "30-across-branches": reads_the_other_branch(),
+    "31-attribute-twice": model(layer(node("Softmax", ["x"], ["y"], integer("axis", 1), integer("axis", 2)))),
+    "32-attribute-type": model(layer(node("Softmax", ["x"], ["y"], part(1, "axis") + number(3, 1) + number(20, 1)))),
+    "33-reference": model(layer(node("Softmax", ["x"], ["y"], part(1, "axis") + part(21, "a") + number(20, INT)))),
+    "34-node-without-output": model(layer(DENSE, RELU, node("Relu", ["h"], [], name="dead"))),
+    "35-output-missing": model(layer(DENSE)),
+    "37-no-shape": model(chain(inputs=[part(11, part(1, "x") + part(2, part(1, number(1, FLOAT))))])),
+    "38-negative-dimension": model(chain(inputs=[graph_input("x", dims=(-1, 4))])),
+}
+
+
+def main():
+    folder = Path(sys.argv[1]) if len(sys.argv) > 1 else Path(__file__).parent
+    for old in folder.glob("*.onnx"):
+        old.unlink()
+    for name, contents in MODELS.items():
+        assert len(contents) < 2048, name
+        (folder / f"{name}.onnx").write_bytes(contents)
+    print(f"{len(MODELS)} models in {folder}")
+
+
+if __name__ == "__main__":
+    main()
