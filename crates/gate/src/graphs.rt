@@ -48,11 +48,9 @@ pub(crate) fn graph(
     let Step::Went(first) = opened else {
         return opened;
     };
-    let start = f.start;
-    let end = f.next;
     let mut c = Cursor {
-        at: start,
-        end: end,
+        at: f.start,
+        end: f.next,
     };
     let mut q = first;
     loop {
@@ -81,11 +79,9 @@ fn node(model: &[u8], cells: &mut [u32], left: usize, graph: Field, p: Progress,
     let Ruling::Kept = ruling else {
         return standing(p, ruling);
     };
-    let start = f.start;
-    let end = f.next;
     let mut c = Cursor {
-        at: start,
-        end: end,
+        at: f.start,
+        end: f.next,
     };
     let mut q = p;
     loop {
@@ -103,21 +99,14 @@ fn node(model: &[u8], cells: &mut [u32], left: usize, graph: Field, p: Progress,
 }
 
 // "Attribute: 22, 21, 31, 33, 32; then its graphs in order"
-fn attribute(
-    model: &[u8],
-    cells: &mut [u32],
-    left: usize,
-    node: Field,
-    p: Progress,
-    f: Field,
-) -> Step
+fn attribute(model: &[u8], cells: &mut [u32], left: usize, n: Field, p: Progress, f: Field) -> Step
     requires { ⌜ Enters (now model) p f ⌝ }
-    ensures answer { λ r. ⌜ stepSays (now (model .entry)) (now (cells .exit)) r ≡ attributeAgain (now (model .entry)) (fills (length (now (cells .entry)))) (λ v g. graphAgain (now (model .entry)) (fills (length (now (cells .entry)))) left false v g) node (walkIn (now (model .entry)) (now (cells .entry)) p) f ⌝ }
+    ensures answer { λ r. ⌜ stepSays (now (model .entry)) (now (cells .exit)) r ≡ attributeAgain (now (model .entry)) (fills (length (now (cells .entry)))) (λ v g. graphAgain (now (model .entry)) (fills (length (now (cells .entry)))) left false v g) n (walkIn (now (model .entry)) (now (cells .entry)) p) f ⌝ }
     ensures grown { λ r. ⌜ grows p r ⌝ }
     ensures counts { λ r. ⌜ counted f p r ⌝ }
     ensures kept { λ _. ⌜ Keeps (p .used) (now (cells .entry)) (now (cells .exit)) ⌝ }
 {
-    let ruling = attribute_rules(model, node, f);
+    let ruling = attribute_rules(model, n, f);
     let Ruling::Kept = ruling else {
         return standing(p, ruling);
     };

@@ -106,10 +106,10 @@ abbrev graph-claims : ℕ → graph-lts.Claims
 graph-claims t = (stopped-reads.Asked, stopped-reads.Learnt, opening-reads.Asked, opening-reads.Learnt, next-of-reads.Asked, next-of-reads.Learnt, graph-outputs-reads.Asked, graph-outputs-reads.Learnt, standing-reads.Asked, standing-reads.Learnt, node-below t, node.Post)
 
 abbrev graph-Inv-loop : graph-lts.InvT-loop
-graph-Inv-loop model cells₀ left main f start end c₀ q₀ cells c q = Going model Graph·node end start (λ size. nodeAgain model (fills size) (Nested model (left - 1) size) f) (each (nodeAgain model (fills (length cells₀)) (Nested model (left - 1) (length cells₀)) f) (walkIn model cells₀ q₀) (allFrom model Graph·node end start)) cells₀ q₀ cells q c
+graph-Inv-loop model cells₀ left main f c₀ q₀ cells c q = Going model Graph·node (f .next) (f .start) (λ size. nodeAgain model (fills size) (Nested model (left - 1) size) f) (each (nodeAgain model (fills (length cells₀)) (Nested model (left - 1) (length cells₀)) f) (walkIn model cells₀ q₀) (allFrom model Graph·node (f .next) (f .start))) cells₀ q₀ cells q c
 
 abbrev graph-μ-loop : graph-lts.MeasureT-loop
-graph-μ-loop model cells₀ left main f start end c₀ q₀ cells c q = end - c .at
+graph-μ-loop model cells₀ left main f c₀ q₀ cells c q = f .next - c .at
 
 graph-returns : (t : ℕ) → graph-lts.Need-returns (graph-claims t) (graph-at t) graph.Post graph-Inv-loop graph-μ-loop
 graph-returns t c = (c .stopped .ensures .0 _ _ ∙ (let a = c .before .before .before .before .args in graph-deep _ _ (a .main) (now (a .cells)) (a .p) (a .f) (c .before .if1 .taken)), (c .stopped .ensures .1 _, (stopped-counts _ _ _ (c .stopped .ensures .0), keeps-all _ _)))
@@ -146,10 +146,10 @@ abbrev node-claims : ℕ → node-lts.Claims
 node-claims t = (node-rules-reads.Asked, node-rules-reads.Learnt, standing-reads.Asked, standing-reads.Learnt, next-of-reads.Asked, next-of-reads.Learnt, closing-reads.Asked, closing-reads.Learnt, attribute-below t, attribute.Post)
 
 abbrev node-Inv-loop : node-lts.InvT-loop
-node-Inv-loop model cells₀ left f start end c₀ q₀ cells c q = Going model Node·attribute end start (λ size. attributeAgain model (fills size) (Nested model left size) f) (each (attributeAgain model (fills (length cells₀)) (Nested model left (length cells₀)) f) (walkIn model cells₀ q₀) (allFrom model Node·attribute end start)) cells₀ q₀ cells q c
+node-Inv-loop model cells₀ left f c₀ q₀ cells c q = Going model Node·attribute (f .next) (f .start) (λ size. attributeAgain model (fills size) (Nested model left size) f) (each (attributeAgain model (fills (length cells₀)) (Nested model left (length cells₀)) f) (walkIn model cells₀ q₀) (allFrom model Node·attribute (f .next) (f .start))) cells₀ q₀ cells q c
 
 abbrev node-μ-loop : node-lts.MeasureT-loop
-node-μ-loop model cells₀ left f start end c₀ q₀ cells c q = end - c .at
+node-μ-loop model cells₀ left f c₀ q₀ cells c q = f .next - c .at
 
 node-returns : (t : ℕ) → node-lts.Need-returns (node-claims t) (node-at t) node.Post node-Inv-loop node-μ-loop
 node-returns t c = promised (node-stops _ _ _ _ _ _ _ (c .before .before .before .node-rules .ensures) (c .before .enum-told2 .given .1) (c .standing .ensures))
