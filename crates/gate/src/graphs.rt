@@ -22,7 +22,6 @@ use messages::is_body;
 use messages::numbers::ATTRIBUTE_TYPE;
 use messages::numbers::GRAPH_NODE;
 use messages::numbers::NODE_ATTRIBUTE;
-use wire::Cursor;
 use wire::Field;
 use wire::Sought;
 
@@ -48,10 +47,7 @@ pub(crate) fn graph(
     let Step::Went(first) = opened else {
         return opened;
     };
-    let mut c = Cursor {
-        at: f.start,
-        end: f.next,
-    };
+    let mut c = f.contents();
     let mut q = first;
     loop {
         let sought = c.next_of(model, GRAPH_NODE);
@@ -79,10 +75,7 @@ fn node(model: &[u8], cells: &mut [u32], left: usize, graph: Field, p: Progress,
     let Ruling::Kept = ruling else {
         return standing(p, ruling);
     };
-    let mut c = Cursor {
-        at: f.start,
-        end: f.next,
-    };
+    let mut c = f.contents();
     let mut q = p;
     loop {
         let sought = c.next_of(model, NODE_ATTRIBUTE);
@@ -114,12 +107,7 @@ fn attribute(model: &[u8], cells: &mut [u32], left: usize, n: Field, p: Progress
     if !is_body(number) {
         return Step::Went(p);
     }
-    let start = f.start;
-    let end = f.next;
-    let mut c = Cursor {
-        at: start,
-        end: end,
-    };
+    let mut c = f.contents();
     let mut q = p;
     loop {
         let sought = c.next_of(model, number);

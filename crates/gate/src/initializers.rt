@@ -25,7 +25,6 @@ use messages::numbers::TENSOR_DATA_TYPE;
 use messages::numbers::TENSOR_NAME;
 use messages::numbers::VALUE_INFO_NAME;
 use messages::read_name;
-use wire::Cursor;
 use wire::Field;
 use wire::Sought;
 
@@ -106,12 +105,7 @@ pub(crate) fn initializers(
     ensures grown { λ r. ⌜ grows p r ⌝ }
     ensures kept { λ _. ⌜ Keeps (p .used) (now (cells .entry)) (now (cells .exit)) ⌝ }
 {
-    let start = graph.start;
-    let end = graph.next;
-    let mut c = Cursor {
-        at: start,
-        end: end,
-    };
+    let mut c = graph.contents();
     let mut q = p;
     loop {
         let sought = c.next_of(model, GRAPH_INITIALIZER);

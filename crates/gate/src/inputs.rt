@@ -18,7 +18,6 @@ use messages::main_type;
 use messages::numbers::GRAPH_INPUT;
 use messages::numbers::VALUE_INFO_NAME;
 use messages::read_name;
-use wire::Cursor;
 use wire::Field;
 use wire::Sought;
 
@@ -52,12 +51,7 @@ pub(crate) fn inputs(model: &[u8], cells: &mut [u32], main: bool, p: Progress, g
     ensures grown { λ r. ⌜ grows p r ⌝ }
     ensures kept { λ _. ⌜ Keeps (p .used) (now (cells .entry)) (now (cells .exit)) ⌝ }
 {
-    let start = graph.start;
-    let end = graph.next;
-    let mut c = Cursor {
-        at: start,
-        end: end,
-    };
+    let mut c = graph.contents();
     let mut q = p;
     loop {
         let sought = c.next_of(model, GRAPH_INPUT);

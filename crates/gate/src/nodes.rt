@@ -22,7 +22,6 @@ use messages::numbers::NODE_INPUT;
 use messages::numbers::NODE_OUTPUT;
 use messages::refused;
 use rules::is_identifier;
-use wire::Cursor;
 use wire::Field;
 use wire::Sought;
 
@@ -46,12 +45,7 @@ fn node_input(model: &[u8], cells: &[u32], used: usize, f: Field) -> Ruling
 fn node_inputs(model: &[u8], cells: &[u32], used: usize, node: Field) -> Ruling
     ensures { λ r. ⌜ rulingSays r ≡ each (nodeInput (now (model .entry)) (scopeIn (now (model .entry)) (now (cells .entry)) used)) tt (allOf Node·input (message (now (model .entry)) node)) ⌝ }
 {
-    let start = node.start;
-    let end = node.next;
-    let mut c = Cursor {
-        at: start,
-        end: end,
-    };
+    let mut c = node.contents();
     loop {
         let sought = c.next_of(model, NODE_INPUT);
         let Sought::Found(f, next) = sought else {

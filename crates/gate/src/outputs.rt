@@ -26,7 +26,6 @@ use messages::numbers::VALUE_INFO_NAME;
 use messages::read_name;
 use messages::refused;
 use rules::is_identifier;
-use wire::Cursor;
 use wire::Field;
 use wire::Sought;
 
@@ -56,12 +55,7 @@ pub(crate) fn node_outputs(model: &[u8], cells: &mut [u32], p: Progress, node: F
     ensures grown { λ r. ⌜ grows p r ⌝ }
     ensures kept { λ _. ⌜ Keeps (p .used) (now (cells .entry)) (now (cells .exit)) ⌝ }
 {
-    let start = node.start;
-    let end = node.next;
-    let mut c = Cursor {
-        at: start,
-        end: end,
-    };
+    let mut c = node.contents();
     let mut q = p;
     loop {
         let sought = c.next_of(model, NODE_OUTPUT);
@@ -101,12 +95,7 @@ pub(crate) fn graph_outputs(
 ) -> Ruling
     ensures { λ r. ⌜ ((k : Context) → k .main ≡ main → rulingSays r ≡ each (output (now (model .entry)) k (scopeIn (now (model .entry)) (now (cells .entry)) used)) tt (allOf Graph·output (message (now (model .entry)) graph))) ⌝ }
 {
-    let start = graph.start;
-    let end = graph.next;
-    let mut c = Cursor {
-        at: start,
-        end: end,
-    };
+    let mut c = graph.contents();
     loop {
         let sought = c.next_of(model, GRAPH_OUTPUT);
         let Sought::Found(f, next) = sought else {

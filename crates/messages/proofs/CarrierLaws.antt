@@ -17,7 +17,7 @@ use Rattle.wire.specs.Lists.{isEmpty, present, keep, contains, lookup}
 use Rattle.wire.specs.Bytes.{Bytes}
 use Rattle.wire.specs.Wire.{field, fields}
 use Rattle.wire.specs.Message.{Message, allOf, firstOf, numberOf, message}
-use Rattle.wire.specs.Answers.{fieldSays, withCursor}
+use Rattle.wire.specs.Answers.{contentsOf, fieldSays, withCursor}
 use Rattle.wire.proofs.Lists.{no-first, true-T, T-false, subset, contains-subset, NoneOf, none-contained}
 use Rattle.wire.proofs.CursorLaws.{answer-read, answer-refused}
 use Rattle.wire.proofs.Reading.{Fits, field-tells}
@@ -126,9 +126,9 @@ module _ (mine number : ℕ) where
 pub foreignFrom : (model : Bytes) → (mine end pos : ℕ) → Bool
 foreignFrom model mine end pos = foreign mine carriers (Holding 0 (fields model end pos))
 
-pub look-all : (model : Bytes) (mine : ℕ) (a : Field) → foreignFrom model mine (a .next) (a .start) ≡ foreign mine carriers (message model a)
-unfolding foreignFrom message Holding
-look-all model mine a = foreign-place mine 0 (a .place) carriers (fields model (a .next) (a .start))
+pub look-all : (model : Bytes) (mine : ℕ) (a : Field) {c : Cursor} → c ≡ contentsOf a → foreignFrom model mine (c .end) (c .at) ≡ foreign mine carriers (message model a)
+unfolding foreignFrom message Holding contentsOf
+look-all model mine a e = rw e (foreign-place mine 0 (a .place) carriers (fields model (a .next) (a .start)))
 
 -- the search has come to the cursor `c`
 pub record Looking (model : Bytes) (mine end start : ℕ) (c : Cursor) : Type 0 where
@@ -139,14 +139,14 @@ pub look-start : (model : Bytes) (mine : ℕ) (c : Cursor) → Looking model min
 look-start model mine c = record { ends = refl; rest = refl }
 
 module _ {model : Bytes} {mine end start : ℕ} {c : Cursor} (q : Looking model mine end start c) where
-  pub look-done : end ≤ c .at → false ≡ foreignFrom model mine end start
+  pub look-done : c .end ≤ c .at → false ≡ foreignFrom model mine end start
   unfolding foreignFrom
-  look-done h = sym (ap (λ (l : List Field). foreign mine carriers (Holding 0 l)) (fields-done model end (c .at) h) ∙ foreign-nothing mine 0 carriers) ∙ q .rest
+  look-done h = sym (ap (λ (l : List Field). foreign mine carriers (Holding 0 l)) (fields-done model end (c .at) (rw (q .ends) at h)) ∙ foreign-nothing mine 0 carriers) ∙ q .rest
 
-  module _ (h : c .at < end) {r : FieldAnswer} (read : fieldSays r ≡ withCursor (c .end) (field model (c .end) (c .at))) where
+  module _ (h : c .at < c .end) {r : FieldAnswer} (read : fieldSays r ≡ withCursor (c .end) (field model (c .end) (c .at))) where
     pub look-stop : {x : Refusal} → r ≡ field-answer.Refused x → false ≡ foreignFrom model mine end start
     unfolding foreignFrom
-    look-stop {x} e = sym (ap (λ (l : List Field). foreign mine carriers (Holding 0 l)) (fields-stop model end (c .at) x h (rw (q .ends) at (answer-refused model c read e))) ∙ foreign-nothing mine 0 carriers) ∙ q .rest
+    look-stop {x} e = sym (ap (λ (l : List Field). foreign mine carriers (Holding 0 l)) (fields-stop model end (c .at) x (rw (q .ends) at h) (rw (q .ends) at (answer-refused model c read e))) ∙ foreign-nothing mine 0 carriers) ∙ q .rest
 
     module _ {f : Field} {next : Cursor} (e : r ≡ field-answer.Read f next) where
       went : (field model end (c .at) ≡ pass f) × (next ≡ record { at = f .next; end = end })
@@ -161,7 +161,7 @@ module _ {model : Bytes} {mine end start : ℕ} {c : Cursor} (q : Looking model 
           ap (λ (x : Bool). x || foreign mine carriers (Holding 0 (fields model end (next .at)))) k
           ∙ ap (λ (n : ℕ). (not (eqb (f .number) mine) && contains (f .number) (map (λ x. x .1) carriers)) || foreign mine carriers (Holding 0 (fields model end n))) at-next
           ∙ sym (foreign-more mine 0 carriers f (fields model end (f .next)))
-          ∙ sym (ap (λ (l : List Field). foreign mine carriers (Holding 0 l)) (fields-step model end (c .at) f h (went .0)))
+          ∙ sym (ap (λ (l : List Field). foreign mine carriers (Holding 0 l)) (fields-step model end (c .at) f (rw (q .ends) at h) (went .0)))
           ∙ q .rest
 
       module _ {b : Bool} (k : b ≡ (not (eqb (f .number) mine) && contains (f .number) carrierNumbers)) where

@@ -12,7 +12,7 @@ use Rattle.wire.specs.declared.Sought.the-variants as sought
 use Rattle.wire.specs.Bytes.{Bytes, same, member}
 use Rattle.wire.specs.Order.{Ordered}
 use Rattle.wire.specs.Message.{allOf, bytesOf, message}
-use Rattle.wire.specs.Answers.{soughtSays, soughtIn}
+use Rattle.wire.specs.Answers.{contentsOf, soughtSays, soughtIn}
 use Rattle.wire.proofs.CursorLaws.{says}
 use Rattle.wire.proofs.Along.{allFrom, Onward, all-none, all-some}
 use Rattle.messages.specs.Earlier.{before, namesIn}
@@ -50,9 +50,9 @@ pub record Rereading (model : Bytes) (number end : ℕ) (named : Field → Bytes
   pub rest : member text (map named (before place (allFrom model number end (c .at)))) ≡ o
 
 -- the names in a message's fields
-pub reread-all : (model : Bytes) (number name place : ℕ) (text : Bytes) (m : Field) → member text (map (λ f. bytesOf model name (message model f)) (before place (allFrom model number (m .next) (m .start)))) ≡ member text (namesIn model name (before place (allOf number (message model m))))
-unfolding allFrom allOf message namesIn
-reread-all model number name place text m = refl
+pub reread-all : (model : Bytes) (number name place : ℕ) (text : Bytes) (m : Field) {c : Cursor} → c ≡ contentsOf m → member text (map (λ f. bytesOf model name (message model f)) (before place (allFrom model number (c .end) (c .at)))) ≡ member text (namesIn model name (before place (allOf number (message model m))))
+unfolding allFrom allOf message namesIn contentsOf
+reread-all model number name place text m e = rw e refl
 
 module _ {model : Bytes} {number end : ℕ} {named : Field → Bytes} {place : ℕ} {text : Bytes} {o : Bool} {c : Cursor} (q : Rereading model number end named place text o c) {r : Sought} (read : soughtSays r ≡ soughtIn model number (c .end) (c .at)) where
   pub reread-done : r ≡ sought.Missing → false ≡ o

@@ -9,7 +9,7 @@ use Rattle.wire.specs.Outcome.{pass, _>>=_, _>>_, each, Judged, refused, refuse
 use Rattle.wire.specs.Bytes.{Bytes, same, member}
 use Rattle.wire.specs.Message.{allOf, numberOf, bytesOf, message, whole}
 use Rattle.wire.specs.Order.{Ordered}
-use Rattle.wire.specs.Answers.{soughtSays, soughtIn}
+use Rattle.wire.specs.Answers.{contentsOf, soughtSays, soughtIn}
 use Rattle.wire.specs.declared.Refusal.{Refusal}
 use Rattle.wire.specs.declared.Field.{Field}
 use Rattle.wire.specs.declared.Cursor.{Cursor}
@@ -73,8 +73,8 @@ module _ (model : Bytes) (c : Cursor) (ends : c .end ≡ length model) {a : Soug
 
 -- ---- reading them again: whether x is imported before a place
 
-pub imports-again : (model : Bytes) (place : ℕ) (x : Bytes) → Rereading model Model·opset-import (length model) (importOf model) place x (member x (importsBefore model place)) (record { at = 0; end = length model })
-unfolding importsBefore
+pub imports-again : (model : Bytes) (place : ℕ) (x : Bytes) → Rereading model Model·opset-import (length model) (importOf model) place x (member x (importsBefore model place)) (contentsOf (whole model))
+unfolding importsBefore whole contentsOf
 imports-again model place x = record { ends = refl; rest = ap (λ (l : List Field). member x (map (importOf model) (before place l))) (sym (from-start model)) }
 
 pub same-import : (model x : Bytes) (f : Field) {y : Bytes} → y ≡ bytesOf model OperatorSetId·domain (message model f) → {b : Bool} → b ≡ same x (domain y) → b ≡ same x (importOf model f)
@@ -160,8 +160,8 @@ pub record Importing (model list : Bytes) (c : Cursor) : Type 0 where
   pub split : All model ≡ pre ++ From model (c .at)
   pub past : each (opsetImport model list) [] pre ≡ pass imports
 
-pub importing-start : (model list : Bytes) → Importing model list (record { at = 0; end = length model })
-unfolding each
+pub importing-start : (model list : Bytes) → Importing model list (contentsOf (whole model))
+unfolding each whole contentsOf
 importing-start model list = record { pre = []; imports = []; ends = refl; split = from-start model; past = refl }
 
 module _ {model list : Bytes} {c : Cursor} (q : Importing model list c) where

@@ -10,7 +10,6 @@ ghost use Rattle.rules.specs.Node.{carriers, carrierNumbers, needed, foreign, b
 use crate::numbers::ATTRIBUTE_G;
 use crate::numbers::ATTRIBUTE_GRAPHS;
 use crate::numbers::ATTRIBUTE_TYPE;
-use wire::Cursor;
 use wire::Field;
 use wire::FieldAnswer;
 use wire::Sought;
@@ -97,15 +96,9 @@ fn is_foreign(mine: u64, number: u64) -> bool
 fn has_foreign(model: &[u8], a: Field, mine: u64) -> bool
     ensures { λ r. ⌜ r ≡ foreign mine carriers (message (now (model .entry)) a) ⌝ }
 {
-    let start = a.start;
-    let end = a.next;
-    let mut c = Cursor {
-        at: start,
-        end: end,
-    };
+    let mut c = a.contents();
     loop {
-        let at = c.at;
-        if end <= at {
+        if c.end <= c.at {
             return false;
         }
         let read = c.field(model);

@@ -3,7 +3,6 @@ ghost use mathlib.Core.Path.{_≡_};
 ghost use Rattle.wire.specs.Bytes.{member};
 ghost use Rattle.wire.specs.Message.{allOf, message};
 ghost use Rattle.messages.specs.Earlier.{before, namesIn};
-use wire::Cursor;
 use wire::Field;
 use wire::Sought;
 use wire::same_bytes;
@@ -12,12 +11,7 @@ use wire::same_bytes;
 pub fn is_earlier(model: &[u8], m: Field, number: u64, name: u64, place: usize, text: &[u8]) -> bool
     ensures { λ r. ⌜ r ≡ member (now (text .entry)) (namesIn (now (model .entry)) name (before place (allOf number (message (now (model .entry)) m)))) ⌝ }
 {
-    let start = m.start;
-    let end = m.next;
-    let mut c = Cursor {
-        at: start,
-        end: end,
-    };
+    let mut c = m.contents();
     loop {
         let sought = c.next_of(model, number);
         let Sought::Found(f, next) = sought else {

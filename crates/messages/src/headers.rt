@@ -21,7 +21,6 @@ use crate::numbers::OPERATOR_SET_ID_VERSION;
 use crate::rulings::refused;
 use operators::allows;
 use operators::same_domain;
-use wire::Cursor;
 use wire::Field;
 use wire::Sought;
 
@@ -66,8 +65,7 @@ pub fn has(model: &[u8], m: Field, number: u64) -> bool
 fn is_imported_before(model: &[u8], place: usize, d: &[u8]) -> bool
     ensures { λ r. ⌜ r ≡ member (domain (now (d .entry))) (importsBefore (now (model .entry)) place) ⌝ }
 {
-    let end = model.len();
-    let mut c = Cursor { at: 0, end: end };
+    let mut c = whole(model).contents();
     loop {
         let sought = c.next_of(model, MODEL_OPSET_IMPORT);
         let Sought::Found(f, next) = sought else {
@@ -109,8 +107,7 @@ fn opset_import(model: &[u8], list: &[u8], f: Field) -> Ruling
 fn opset_imports(model: &[u8], list: &[u8]) -> Ruling
     ensures { λ r. ⌜ rulingSays r ≡ silent (each (opsetImport (now (model .entry)) (now (list .entry))) [] (allOf Model·opset-import (message (now (model .entry)) (whole (now (model .entry)))))) ⌝ }
 {
-    let end = model.len();
-    let mut c = Cursor { at: 0, end: end };
+    let mut c = whole(model).contents();
     loop {
         let sought = c.next_of(model, MODEL_OPSET_IMPORT);
         let Sought::Found(f, next) = sought else {

@@ -17,7 +17,6 @@ use crate::numbers::TYPE_TENSOR;
 use crate::numbers::VALUE_INFO_TYPE;
 use crate::rulings::refused;
 use rules::is_identifier;
-use wire::Cursor;
 use wire::Field;
 use wire::Sought;
 
@@ -51,12 +50,7 @@ fn dim(model: &[u8], d: Field) -> Ruling
 fn dims(model: &[u8], shape: Field) -> Ruling
     ensures { λ r. ⌜ rulingSays r ≡ each (dim (now (model .entry))) tt (allOf Shape·dim (message (now (model .entry)) shape)) ⌝ }
 {
-    let start = shape.start;
-    let end = shape.next;
-    let mut c = Cursor {
-        at: start,
-        end: end,
-    };
+    let mut c = shape.contents();
     loop {
         let sought = c.next_of(model, SHAPE_DIM);
         let Sought::Found(d, next) = sought else {

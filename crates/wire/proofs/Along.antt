@@ -11,7 +11,7 @@ use Rattle.wire.specs.Lists.{first, keep}
 use Rattle.wire.specs.Bytes.{Bytes}
 use Rattle.wire.specs.Wire.{field, fieldsFrom, fields}
 use Rattle.wire.specs.Message.{allOf, message}
-use Rattle.wire.specs.Answers.{soughtSays, after, soughtIn}
+use Rattle.wire.specs.Answers.{soughtSays, contentsOf, after, soughtIn}
 use Rattle.wire.specs.declared.Refusal.{Refusal}
 use Rattle.wire.specs.declared.Field.{Field}
 use Rattle.wire.specs.declared.Cursor.{Cursor}
@@ -135,9 +135,14 @@ pub along-start : {S : Type 0} (s : Bytes) (number : ℕ) (step : S → Field �
 along-start s number step t c = record { ends = refl; rest = refl }
 
 -- the loop over the message that a field holds
-pub along-all : {S : Type 0} (s : Bytes) (number : ℕ) (step : S → Field → Judged S) (t : S) (m : Field) → each step t (allFrom s number (m .next) (m .start)) ≡ each step t (allOf number (message s m))
-unfolding allFrom allOf message
-along-all s number step t m = refl
+pub along-contents : {S : Type 0} (s : Bytes) (number : ℕ) (step : S → Field → Judged S) (t : S) (m : Field) {c : Cursor} → c ≡ contentsOf m → each step t (allFrom s number (c .end) (c .at)) ≡ each step t (allOf number (message s m))
+unfolding allFrom allOf message contentsOf
+along-contents s number step t m e = rw e refl
+
+-- which ends inside whatever the field ends inside
+pub contents-inside : (m : Field) (size : ℕ) {c : Cursor} → c ≡ contentsOf m → m .next ≤ size → c .end ≤ size
+unfolding contentsOf
+contents-inside m size e h = rw e h
 
 module _ {S : Type 0} {s : Bytes} {number end : ℕ} {step : S → Field → Judged S} {o : Judged S} {t : S} {c : Cursor} (q : Along s number end step o t c) where
   module _ {r : Sought} (read : soughtSays r ≡ soughtIn s number (c .end) (c .at)) where

@@ -10,7 +10,7 @@ use Rattle.wire.specs.Lists.{first, keep}
 use Rattle.wire.specs.Bytes.{Bytes}
 use Rattle.wire.specs.Wire.{field, fields}
 use Rattle.wire.specs.Message.{allOf, firstOf, numberOf, placeOf, text, bytesOf, message}
-use Rattle.wire.specs.Answers.{soughtSays, foundSays, after, soughtIn}
+use Rattle.wire.specs.Answers.{soughtSays, foundSays, contentsOf, after, soughtIn}
 use Rattle.wire.specs.declared.Field.{Field}
 use Rattle.wire.specs.declared.Cursor.{Cursor}
 use Rattle.wire.specs.declared.Sought.{Sought}
@@ -28,9 +28,9 @@ same-found (sought.Found g c) = refl
 same-found sought.Missing = refl
 
 module _ (s : Bytes) (number : ℕ) (f : Field) where
-  pub found-first : (r : Sought) → soughtSays r ≡ soughtIn s number (f .next) (f .start) → foundSays r ≡ firstOf number (message s f)
-  unfolding soughtIn firstOf allOf message after without
-  found-first r e = same-found r ∙ ap without e ∙ other (first (keep (λ g. eqb number (g .number)) (fields s (f .next) (f .start))))
+  pub found-first : (r : Sought) {c : Cursor} → c ≡ contentsOf f → soughtSays r ≡ soughtIn s number (c .end) (c .at) → foundSays r ≡ firstOf number (message s f)
+  unfolding soughtIn firstOf allOf message contentsOf after without
+  found-first r k e = same-found r ∙ ap without (rw k at e) ∙ other (first (keep (λ g. eqb number (g .number)) (fields s (f .next) (f .start))))
     where
       other : (o : Option Field) → without (elim o [ none ↦ none | some g ↦ some (after (f .next) g) ]) ≡ o
       other none = refl

@@ -40,6 +40,10 @@ unfoldable pub foundSays : Sought → Option Field
 foundSays (sought.Found f c) = some f
 foundSays sought.Missing = none
 
+-- A cursor at the start of the message that a field holds.
+unfoldable pub contentsOf : Field → Cursor
+contentsOf f = record { at = f .start; end = f .next }
+
 -- A field of a message that ends at `end`, with the cursor after it.
 unfoldable pub after : (end : ℕ) → Field → Field × Cursor
 after end f = (f, record { at = f .next; end = end })

@@ -1,23 +1,27 @@
 // The message that a field holds, its fields by number. "An absent number reads as 0, absent bytes as empty."
 ghost use mathlib.Core.Path.{_≡_};
 ghost use Rattle.wire.specs.Message.{firstOf, numberOf, placeOf, bytesOf, message};
-ghost use Rattle.wire.specs.Answers.{foundSays};
+ghost use Rattle.wire.specs.Answers.{contentsOf, foundSays};
 use crate::Cursor;
 use crate::Field;
 use crate::Sought;
 use crate::slices::between;
 
 impl Field {
+    // The message that the field holds, from its start to its end.
+    pub fn contents(self) -> Cursor
+        ensures { λ r. ⌜ r ≡ contentsOf self ⌝ }
+    {
+        Cursor {
+            at: self.start,
+            end: self.next,
+        }
+    }
+
     pub fn first_of(self, s: &[u8], number: u64) -> Sought
         ensures { λ r. ⌜ foundSays r ≡ firstOf number (message (now (s .entry)) self) ⌝ }
     {
-        let start = self.start;
-        let end = self.next;
-        let inside = Cursor {
-            at: start,
-            end: end,
-        };
-        inside.next_of(s, number)
+        self.contents().next_of(s, number)
     }
 
     pub fn number_of(self, s: &[u8], number: u64) -> u64

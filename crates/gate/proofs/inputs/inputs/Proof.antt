@@ -3,7 +3,7 @@ use native.Mathlib.Nat.{le-trans}
 use mathlib.Core.Path.{refl, _∙_}
 use lib.ListN.{length}
 use Rattle.wire.specs.Outcome.{each}
-use Rattle.wire.proofs.Along.{allFrom, along-start, along-all}
+use Rattle.wire.proofs.Along.{allFrom, along-start, along-contents, contents-inside}
 use Rattle.schema.specs.Numbers.{Graph·input}
 use Rattle.rules.specs.Verdict.{fills}
 use Rattle.rules.specs.Graph.{input}
@@ -15,22 +15,22 @@ use Rattle.gate.proofs.inputs.inputs.Statement.{statement}
 use Rattle.gate.proofs.inputs.inputs.Tie as tie
 
 abbrev Inv-loop : tie.InvT-loop
-Inv-loop model cells₀ main start end c₀ q₀ cells c q = Adding model Graph·input end (λ n. input model (fills n) (plain main)) (each (input model (fills (length cells₀)) (plain main)) (walkIn model cells₀ q₀) (allFrom model Graph·input end start)) cells₀ q₀ cells q c
+Inv-loop model cells₀ main c₀ q₀ cells c q = Adding model Graph·input (c₀ .end) (λ n. input model (fills n) (plain main)) (each (input model (fills (length cells₀)) (plain main)) (walkIn model cells₀ q₀) (allFrom model Graph·input (c₀ .end) (c₀ .at))) cells₀ q₀ cells q c
 
 abbrev μ-loop : tie.MeasureT-loop
-μ-loop model cells₀ main start end c₀ q₀ cells c q = end - c .at
+μ-loop model cells₀ main c₀ q₀ cells c q = c₀ .end - c .at
 
 loop-holds : tie.Need-loop-holds Inv-loop μ-loop
 loop-holds c = adding-start _ _ _ _ _ _ (along-start _ _ _ _ _)
 
 returns : tie.Need-returns Inv-loop μ-loop
-returns c = let d = adding-done (c .before .before .before .loop .inv) (c .before .before .next-of .ensures) (c .enum-told .given .1) in (λ k e. d .0 ∙ along-all _ _ _ _ _ ∙ inputs-any _ _ _ k e _ _, d .1)
+returns c = let d = adding-done (c .before .before .before .loop .inv) (c .before .before .next-of .ensures) (c .enum-told .given .1) in (λ k e. d .0 ∙ along-contents _ _ _ _ _ (c .before .before .before .before .contents .ensures) ∙ inputs-any _ _ _ k e _ _, d .1)
 
 input-requires : tie.Need-input-requires Inv-loop μ-loop
-input-requires c κs = (c .before .before .before .before .before .before .before .before .pre .0, le-trans (adding-inside (c .before .before .before .before .before .loop .inv) (c .before .before .before .before .next-of .ensures) (c .before .before .sought .given .1)) (c .before .before .before .before .before .before .before .before .pre .1))
+input-requires c κs = (c .before .before .before .before .before .before .before .before .before .pre .0, le-trans (adding-inside (c .before .before .before .before .before .loop .inv) (c .before .before .before .before .next-of .ensures) (c .before .before .sought .given .1)) (contents-inside _ _ (c .before .before .before .before .before .before .contents .ensures) (c .before .before .before .before .before .before .before .before .before .pre .1)))
 
 returns-2 : tie.Need-returns-2 Inv-loop μ-loop
-returns-2 c = let d = adding-stops (c .before .before .before .before .before .before .before .before .before .before .loop .inv) (c .before .before .before .before .before .before .before .before .before .next-of .ensures) (c .before .before .before .before .before .before .before .sought .given .1) _ (c .before .before .before .before .input .ensures .0 _ refl) (c .before .before .before .before .input .ensures .1 .0) (c .before .before .before .before .input .ensures .1 .1) (c .enum-told2 .given .1) in (λ k e. d .0 ∙ along-all _ _ _ _ _ ∙ inputs-any _ _ _ k e _ _, d .1)
+returns-2 c = let d = adding-stops (c .before .before .before .before .before .before .before .before .before .before .loop .inv) (c .before .before .before .before .before .before .before .before .before .next-of .ensures) (c .before .before .before .before .before .before .before .sought .given .1) _ (c .before .before .before .before .input .ensures .0 _ refl) (c .before .before .before .before .input .ensures .1 .0) (c .before .before .before .before .input .ensures .1 .1) (c .enum-told2 .given .1) in (λ k e. d .0 ∙ along-contents _ _ _ _ _ (c .before .before .before .before .before .before .before .before .before .before .before .contents .ensures) ∙ inputs-any _ _ _ k e _ _, d .1)
 
 loop-less : tie.Need-loop-less Inv-loop μ-loop
 loop-less c = adding-falls (c .before .before .before .before .before .before .before .before .before .before .before .loop .inv) (c .before .before .before .before .before .before .before .before .before .before .next-of .ensures) (c .before .before .before .before .before .before .before .before .sought .given .1)
@@ -44,6 +44,7 @@ inputs-spec =
     (tie.spec
     Inv-loop
     μ-loop
+    (λ c κs. search needs)
     loop-holds
     (λ c κs. search needs)
     (λ c. search needs)

@@ -2,7 +2,7 @@ use Prim.Native.Nat.{_-_}
 use mathlib.Core.Path.{_∙_}
 use lib.ListN.{length}
 use Rattle.wire.specs.Outcome.{each}
-use Rattle.wire.proofs.Along.{allFrom, along-start, along-all}
+use Rattle.wire.proofs.Along.{allFrom, along-start, along-contents, contents-inside}
 use Rattle.schema.specs.Numbers.{Node·output}
 use Rattle.rules.specs.Verdict.{fills}
 use Rattle.rules.specs.Node.{nodeOutput}
@@ -13,22 +13,22 @@ use Rattle.gate.proofs.outputs.node_outputs.Statement.{statement}
 use Rattle.gate.proofs.outputs.node_outputs.Tie as tie
 
 abbrev Inv-loop : tie.InvT-loop
-Inv-loop model cells₀ start end c₀ q₀ cells c q = Adding model Node·output end (λ n. nodeOutput model (fills n)) (each (nodeOutput model (fills (length cells₀))) (walkIn model cells₀ q₀) (allFrom model Node·output end start)) cells₀ q₀ cells q c
+Inv-loop model cells₀ c₀ q₀ cells c q = Adding model Node·output (c₀ .end) (λ n. nodeOutput model (fills n)) (each (nodeOutput model (fills (length cells₀))) (walkIn model cells₀ q₀) (allFrom model Node·output (c₀ .end) (c₀ .at))) cells₀ q₀ cells q c
 
 abbrev μ-loop : tie.MeasureT-loop
-μ-loop model cells₀ start end c₀ q₀ cells c q = end - c .at
+μ-loop model cells₀ c₀ q₀ cells c q = c₀ .end - c .at
 
 loop-holds : tie.Need-loop-holds Inv-loop μ-loop
 loop-holds c = adding-start _ _ _ _ _ _ (along-start _ _ _ _ _)
 
 returns : tie.Need-returns Inv-loop μ-loop
-returns c = let d = adding-done (c .before .before .before .loop .inv) (c .before .before .next-of .ensures) (c .enum-told .given .1) in (d .0 ∙ along-all _ _ _ _ _, d .1)
+returns c = let d = adding-done (c .before .before .before .loop .inv) (c .before .before .next-of .ensures) (c .enum-told .given .1) in (d .0 ∙ along-contents _ _ _ _ _ (c .before .before .before .before .contents .ensures), d .1)
 
 node-output-requires : tie.Need-node-output-requires Inv-loop μ-loop
-node-output-requires c κs = (adding-placed (c .before .before .before .before .before .loop .inv) (c .before .before .before .before .next-of .ensures) (c .before .before .sought .given .1) _ (c .before .before .before .before .before .before .before .before .pre .0) (c .before .before .before .before .before .before .before .before .pre .1), adding-named (c .before .before .before .before .before .loop .inv) (c .before .before .before .before .next-of .ensures) (c .before .before .sought .given .1) (c .before .before .before .before .before .before .before .before .pre .1))
+node-output-requires c κs = (adding-placed (c .before .before .before .before .before .loop .inv) (c .before .before .before .before .next-of .ensures) (c .before .before .sought .given .1) _ (c .before .before .before .before .before .before .before .before .before .pre .0) (contents-inside _ _ (c .before .before .before .before .before .before .contents .ensures) (c .before .before .before .before .before .before .before .before .before .pre .1)), adding-named (c .before .before .before .before .before .loop .inv) (c .before .before .before .before .next-of .ensures) (c .before .before .sought .given .1) (contents-inside _ _ (c .before .before .before .before .before .before .contents .ensures) (c .before .before .before .before .before .before .before .before .before .pre .1)))
 
 returns-2 : tie.Need-returns-2 Inv-loop μ-loop
-returns-2 c = let d = adding-stops (c .before .before .before .before .before .before .before .before .before .before .loop .inv) (c .before .before .before .before .before .before .before .before .before .next-of .ensures) (c .before .before .before .before .before .before .before .sought .given .1) _ (c .before .before .before .before .node-output .ensures .0) (c .before .before .before .before .node-output .ensures .1 .0) (c .before .before .before .before .node-output .ensures .1 .1) (c .enum-told2 .given .1) in (d .0 ∙ along-all _ _ _ _ _, d .1)
+returns-2 c = let d = adding-stops (c .before .before .before .before .before .before .before .before .before .before .loop .inv) (c .before .before .before .before .before .before .before .before .before .next-of .ensures) (c .before .before .before .before .before .before .before .sought .given .1) _ (c .before .before .before .before .node-output .ensures .0) (c .before .before .before .before .node-output .ensures .1 .0) (c .before .before .before .before .node-output .ensures .1 .1) (c .enum-told2 .given .1) in (d .0 ∙ along-contents _ _ _ _ _ (c .before .before .before .before .before .before .before .before .before .before .before .contents .ensures), d .1)
 
 loop-less : tie.Need-loop-less Inv-loop μ-loop
 loop-less c = adding-falls (c .before .before .before .before .before .before .before .before .before .before .before .loop .inv) (c .before .before .before .before .before .before .before .before .before .before .next-of .ensures) (c .before .before .before .before .before .before .before .before .sought .given .1)
@@ -42,6 +42,7 @@ node-outputs-spec =
     (tie.spec
     Inv-loop
     μ-loop
+    (λ c κs. search needs)
     loop-holds
     (λ c κs. search needs)
     (λ c. search needs)

@@ -6,28 +6,28 @@ use Rattle.messages.proofs.carriers.has_foreign.Statement.{statement}
 use Rattle.messages.proofs.carriers.has_foreign.Tie as tie
 
 abbrev Inv-loop : tie.InvT-loop
-Inv-loop model mine start end c₀ c = Looking model mine end start c
+Inv-loop model mine c₀ c = Looking model mine (c₀ .end) (c₀ .at) c
 
 abbrev μ-loop : tie.MeasureT-loop
-μ-loop model mine start end c₀ c = end - c .at
+μ-loop model mine c₀ c = c₀ .end - c .at
 
 loop-holds : tie.Need-loop-holds Inv-loop μ-loop
 loop-holds c = look-start _ _ _
 
 returns : tie.Need-returns Inv-loop μ-loop
-returns c = look-done (c .before .loop .inv) (c .if1 .taken) ∙ look-all _ _ _
+returns c = look-done (c .before .before .loop .inv) (c .if1 .taken) ∙ look-all _ _ _ (c .before .before .before .contents .ensures)
 
 returns-2 : tie.Need-returns-2 Inv-loop μ-loop
-returns-2 c = look-stop (c .before .before .before .before .loop .inv) (c .before .before .before .if1 .left) (c .before .before .field .ensures) (c .enum-told .given .1) ∙ look-all _ _ _
+returns-2 c = look-stop (c .before .before .before .before .before .loop .inv) (c .before .before .before .if1 .left) (c .before .before .field .ensures) (c .enum-told .given .1) ∙ look-all _ _ _ (c .before .before .before .before .before .before .contents .ensures)
 
 returns-3 : tie.Need-returns-3 Inv-loop μ-loop
-returns-3 c = look-here (c .before .before .before .before .before .before .before .loop .inv) (c .before .before .before .before .before .before .if1 .left) (c .before .before .before .before .before .field .ensures) (c .before .before .before .read .given .1) (c .before .is-foreign .ensures) (c .if2 .taken) ∙ look-all _ _ _
+returns-3 c = look-here (c .before .before .before .before .before .before .before .before .loop .inv) (c .before .before .before .before .before .before .if1 .left) (c .before .before .before .before .before .field .ensures) (c .before .before .before .read .given .1) (c .before .is-foreign .ensures) (c .if2 .taken) ∙ look-all _ _ _ (c .before .before .before .before .before .before .before .before .before .contents .ensures)
 
 loop-less : tie.Need-loop-less Inv-loop μ-loop
-loop-less c = look-falls (c .before .before .before .before .before .before .before .loop .inv) (c .before .before .before .before .before .before .if1 .left) (c .before .before .before .before .before .field .ensures) (c .before .before .before .read .given .1)
+loop-less c = look-falls (c .before .before .before .before .before .before .before .before .loop .inv) (c .before .before .before .before .before .before .if1 .left) (c .before .before .before .before .before .field .ensures) (c .before .before .before .read .given .1)
 
 loop-again : tie.Need-loop-again Inv-loop μ-loop
-loop-again c = look-next (c .before .before .before .before .before .before .before .loop .inv) (c .before .before .before .before .before .before .if1 .left) (c .before .before .before .before .before .field .ensures) (c .before .before .before .read .given .1) (c .before .is-foreign .ensures) (c .if2 .left)
+loop-again c = look-next (c .before .before .before .before .before .before .before .before .loop .inv) (c .before .before .before .before .before .before .if1 .left) (c .before .before .before .before .before .field .ensures) (c .before .before .before .read .given .1) (c .before .is-foreign .ensures) (c .if2 .left)
 
 pub has-foreign-spec : {M : Type 1} → statement M
 has-foreign-spec =
@@ -35,6 +35,7 @@ has-foreign-spec =
     (tie.spec
     Inv-loop
     μ-loop
+    (λ c κs. search needs)
     loop-holds
     returns
     (λ c κs. search needs)

@@ -11,22 +11,22 @@ use Rattle.messages.proofs.earlier.is_earlier.Statement.{statement}
 use Rattle.messages.proofs.earlier.is_earlier.Tie as tie
 
 abbrev Inv-loop : tie.InvT-loop
-Inv-loop model number name place text start end c₀ c = Rereading model number end (λ f. bytesOf model name (message model f)) place text (member text (map (λ f. bytesOf model name (message model f)) (before place (allFrom model number end start)))) c
+Inv-loop model number name place text c₀ c = Rereading model number (c₀ .end) (λ f. bytesOf model name (message model f)) place text (member text (map (λ f. bytesOf model name (message model f)) (before place (allFrom model number (c₀ .end) (c₀ .at))))) c
 
 abbrev μ-loop : tie.MeasureT-loop
-μ-loop model number name place text start end c₀ c = end - c .at
+μ-loop model number name place text c₀ c = c₀ .end - c .at
 
 loop-holds : tie.Need-loop-holds Inv-loop μ-loop
 loop-holds c = record { ends = refl; rest = refl }
 
 returns : tie.Need-returns Inv-loop μ-loop
-returns c = reread-done (c .before .before .before .loop .inv) (c .before .before .next-of .ensures) (c .enum-told .given .1) ∙ reread-all _ _ _ _ _ _
+returns c = reread-done (c .before .before .before .loop .inv) (c .before .before .next-of .ensures) (c .enum-told .given .1) ∙ reread-all _ _ _ _ _ _ (c .before .before .before .before .contents .ensures)
 
 returns-2 : tie.Need-returns-2 Inv-loop μ-loop
-returns-2 c = reread-past (c .before .before .before .before .before .before .loop .inv) (c .before .before .before .before .before .next-of .ensures) (c .before .before .before .sought .given .1) (c .if1 .taken) ∙ reread-all _ _ _ _ _ _
+returns-2 c = reread-past (c .before .before .before .before .before .before .loop .inv) (c .before .before .before .before .before .next-of .ensures) (c .before .before .before .sought .given .1) (c .if1 .taken) ∙ reread-all _ _ _ _ _ _ (c .before .before .before .before .before .before .before .contents .ensures)
 
 returns-3 : tie.Need-returns-3 Inv-loop μ-loop
-returns-3 c = reread-here (c .before .before .before .before .before .before .before .before .before .loop .inv) (c .before .before .before .before .before .before .before .before .next-of .ensures) (c .before .before .before .before .before .before .sought .given .1) (c .before .before .before .if1 .left) (c .before .same-bytes .ensures ∙ ap (same _) (c .before .before .bytes-of .ensures)) (c .if2 .taken) ∙ reread-all _ _ _ _ _ _
+returns-3 c = reread-here (c .before .before .before .before .before .before .before .before .before .loop .inv) (c .before .before .before .before .before .before .before .before .next-of .ensures) (c .before .before .before .before .before .before .sought .given .1) (c .before .before .before .if1 .left) (c .before .same-bytes .ensures ∙ ap (same _) (c .before .before .bytes-of .ensures)) (c .if2 .taken) ∙ reread-all _ _ _ _ _ _ (c .before .before .before .before .before .before .before .before .before .before .contents .ensures)
 
 loop-less : tie.Need-loop-less Inv-loop μ-loop
 loop-less c = reread-falls (c .before .before .before .before .before .before .before .before .before .loop .inv) (c .before .before .before .before .before .before .before .before .next-of .ensures) (c .before .before .before .before .before .before .sought .given .1)
@@ -40,6 +40,7 @@ is-earlier-spec =
     (tie.spec
     Inv-loop
     μ-loop
+    (λ c κs. search needs)
     loop-holds
     (λ c κs. search needs)
     (λ c. search needs)

@@ -1,6 +1,8 @@
 use Prim.Native.Nat.{_-_}
+use mathlib.Core.Path.{ap, _∙_}
 use lib.ListN.{length}
 use Rattle.wire.specs.Bytes.{member}
+use Rattle.wire.specs.Answers.{contentsOf}
 use Rattle.operators.specs.Operators.{domain}
 use Rattle.schema.specs.Numbers.{Model·opset-import}
 use Rattle.messages.specs.Imports.{importOf, importsBefore}
@@ -11,13 +13,13 @@ use Rattle.messages.proofs.headers.is_imported_before.Statement.{statem
 use Rattle.messages.proofs.headers.is_imported_before.Tie as tie
 
 abbrev Inv-loop : tie.InvT-loop
-Inv-loop model place d end c₀ c = Rereading model Model·opset-import (length model) (importOf model) place (domain d) (member (domain d) (importsBefore model place)) c
+Inv-loop model place d c₀ c = Rereading model Model·opset-import (length model) (importOf model) place (domain d) (member (domain d) (importsBefore model place)) c
 
 abbrev μ-loop : tie.MeasureT-loop
-μ-loop model place d end c₀ c = length model - c .at
+μ-loop model place d c₀ c = length model - c .at
 
 loop-holds : tie.Need-loop-holds Inv-loop μ-loop
-loop-holds c = imports-again _ _ _
+loop-holds c = rw (c .contents .ensures ∙ ap contentsOf (c .before .whole .ensures)) (imports-again _ _ _)
 
 returns : tie.Need-returns Inv-loop μ-loop
 returns c = reread-done (c .before .before .before .loop .inv) (c .before .before .next-of .ensures) (c .enum-told .given .1)
@@ -40,6 +42,8 @@ is-imported-before-spec =
     (tie.spec
     Inv-loop
     μ-loop
+    (λ c κs. search needs)
+    (λ c κs. search needs)
     loop-holds
     (λ c κs. search needs)
     (λ c. search needs)

@@ -1,5 +1,7 @@
 use Prim.Native.Nat.{_-_}
+use mathlib.Core.Path.{ap, _∙_}
 use lib.ListN.{length}
+use Rattle.wire.specs.Answers.{contentsOf}
 use Rattle.messages.specs.Answers.{rulingSays}
 use Rattle.messages.proofs.ImportLaws.{import-falls, Importing, importing-start, importing-end, importing-stops, importing-goes}
 use borrow.Author.Needs.{needs}
@@ -7,13 +9,13 @@ use Rattle.messages.proofs.headers.opset_imports.Statement.{statement}
 use Rattle.messages.proofs.headers.opset_imports.Tie as tie
 
 abbrev Inv-loop : tie.InvT-loop
-Inv-loop model list end c₀ c = Importing model list c
+Inv-loop model list c₀ c = Importing model list c
 
 abbrev μ-loop : tie.MeasureT-loop
-μ-loop model list end c₀ c = length model - c .at
+μ-loop model list c₀ c = length model - c .at
 
 loop-holds : tie.Need-loop-holds Inv-loop μ-loop
-loop-holds c = importing-start _ _
+loop-holds c = rw (c .contents .ensures ∙ ap contentsOf (c .before .whole .ensures)) (importing-start _ _)
 
 returns : tie.Need-returns Inv-loop μ-loop
 unfolding rulingSays
@@ -34,6 +36,8 @@ opset-imports-spec =
     (tie.spec
     Inv-loop
     μ-loop
+    (λ c κs. search needs)
+    (λ c κs. search needs)
     loop-holds
     (λ c κs. search needs)
     (λ c. search needs)
