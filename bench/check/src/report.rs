@@ -36,25 +36,26 @@ fn head(names: &[&str]) -> Vec<String> {
     names.iter().map(|name| name.to_string()).collect()
 }
 
-/// Both tables of the workloads, and what onnx::checker has against any of them.
-pub fn workloads(run: &Run) -> Result<String, String> {
+/// Both tables of the workloads whose names contain the word, and what onnx::checker has against any of them.
+pub fn workloads(run: &Run, word: &str) -> Result<String, String> {
     let mut times = vec![head(&TIME_HEAD)];
     let mut memory = vec![head(&MEMORY_HEAD)];
     let mut told = String::new();
-    for (at, workload) in WORKLOADS.iter().enumerate() {
+    let file = run.folder.join("workload.onnx");
+    for workload in WORKLOADS.iter().filter(|workload| workload.name.contains(word)) {
         eprintln!("{}", workload.name);
         let model = (workload.make)();
         let measured = measure(&model, run.onnx, run.plan);
         times.push(time_row(workload.name, &measured));
-        let file = run.folder.join(format!("workload_{at}.onnx"));
         fs::write(&file, &model).map_err(|error| format!("{}: {error}", file.display()))?;
         drop(model);
         memory.push(memory_row(run, workload.name, &file, &measured)?);
-        fs::remove_file(&file).map_err(|error| format!("{}: {error}", file.display()))?;
         if let Some(complaint) = &measured.told {
             told.push_str(&format!("- onnx::checker refuses \"{}\": {complaint}\n", workload.name));
         }
     }
+    // It is there when the loop ran at all.
+    let _ = fs::remove_file(&file);
     if run.onnx.is_some() && told.is_empty() {
         told.push_str("onnx::checker lets every one of these models pass.\n");
     }

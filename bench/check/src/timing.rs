@@ -1,12 +1,13 @@
 //! Times of all sides on one model, taken in turn in one process.
 
 use std::hint::black_box;
-use std::time::{Duration, Instant};
+use std::time::Duration;
 
 use gate_tests::checker::{check, Verdict};
 use gate_tests::gate::raw_check;
 use gate_tests::models::lists::L;
 
+use crate::clock::timed;
 use crate::onnx::Onnx;
 
 /// How long to go on: `runs` of each side, fewer once a side has taken `budget`, but never below `least`.
@@ -19,6 +20,9 @@ pub struct Plan {
 
 /// Shorter calls are repeated until one timing takes this long.
 const ONE_TIMING: Duration = Duration::from_millis(2);
+/// Before each timing of shorter calls stands one that is not timed: caches and heap are then as the side itself leaves
+/// them, not as the side before it did. In the heap that C++ leaves behind, Rust's first call takes half as long again.
+const WARMED: Duration = Duration::from_millis(500);
 
 #[derive(Clone, Default)]
 pub struct Times(Vec<Duration>);
@@ -50,6 +54,7 @@ pub struct Measured {
 struct Side<'a> {
     call: Box<dyn FnMut() -> [Duration; 2] + 'a>,
     calls: u32,
+    warmed: bool,
     spent: Duration,
     times: [Times; 2],
 }
@@ -57,13 +62,16 @@ struct Side<'a> {
 impl<'a> Side<'a> {
     /// The first call is not counted: it warms the caches, and says how often to call for one timing.
     fn new(call: impl FnMut() -> [Duration; 2] + 'a) -> Side<'a> {
-        let mut side = Side { call: Box::new(call), calls: 1, spent: Duration::ZERO, times: Default::default() };
-        let first: Duration = (side.call)().iter().sum();
-        side.calls = (ONE_TIMING.as_nanos() / first.as_nanos().max(1)).clamp(1, 10_000) as u32;
-        side
+        let mut call = Box::new(call);
+        let first: Duration = call().iter().sum();
+        let calls = (ONE_TIMING.as_nanos() / first.as_nanos().max(1)).clamp(1, 10_000) as u32;
+        Side { call, calls, warmed: first < WARMED, spent: Duration::ZERO, times: Default::default() }
     }
 
     fn run(&mut self) {
+        if self.warmed {
+            (self.call)();
+        }
         let mut sums = [Duration::ZERO; 2];
         for _ in 0..self.calls {
             let taken = (self.call)();
@@ -76,13 +84,7 @@ impl<'a> Side<'a> {
     }
 }
 
-fn timed<T>(work: impl FnOnce() -> T) -> (Duration, T) {
-    let start = Instant::now();
-    let result = work();
-    (start.elapsed(), result)
-}
-
-/// Both checkers accept with the same counts, and the counts are those.
+/// The nodes and names that the Rust checker counts; each call of the proved check must count the same.
 fn accepted(model: &[u8]) -> (u64, usize) {
     let Verdict::Accepted { nodes, names } = check(model, &L, usize::MAX) else {
         panic!("a workload is refused: {:?}", check(model, &L, usize::MAX));
