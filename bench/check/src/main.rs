@@ -1,0 +1,64 @@
+//! The proved check beside an ordinary Rust checker, the Protocol Buffers parse and onnx::checker: bench/run.
+//!
+//! `check_bench FOLDER LIBRARY full|quick [WORD]` prints the tables and writes FOLDER/sweep.csv; with a word it prints those
+//! of the workloads whose names contain it, and no more;
+//! `check_bench memory SIDE MODEL CELLS LIBRARY` is what it starts to measure the memory of one side.
+
+mod clock;
+mod markdown;
+mod memory;
+mod onnx;
+mod report;
+mod timing;
+mod workloads;
+
+use std::fs;
+use std::path::Path;
+use std::process::ExitCode;
+use std::time::Duration;
+
+use onnx::Onnx;
+use report::Run;
+use timing::Plan;
+
+const FULL: Plan = Plan { runs: 21, least: 3, budget: Duration::from_secs(10) };
+const QUICK: Plan = Plan { runs: 5, least: 1, budget: Duration::from_secs(1) };
+
+fn main() -> ExitCode {
+    let words: Vec<String> = std::env::args().skip(1).collect();
+    let words: Vec<&str> = words.iter().map(String::as_str).collect();
+    let done = match words[..] {
+        ["memory", side, model, cells, library] => {
+            memory::report(side, model, cells, library).map(|kb| println!("{kb}"))
+        }
+        [folder, library, "full"] => all(folder, library, FULL, ""),
+        [folder, library, "quick"] => all(folder, library, QUICK, ""),
+        [folder, library, "full", word] => all(folder, library, FULL, word),
+        [folder, library, "quick", word] => all(folder, library, QUICK, word),
+        _ => Err("usage: check_bench FOLDER LIBRARY full|quick [WORD]".to_string()),
+    };
+    match done {
+        Ok(()) => ExitCode::SUCCESS,
+        Err(told) => {
+            eprintln!("{told}");
+            ExitCode::FAILURE
+        }
+    }
+}
+
+fn all(folder: &str, library: &str, plan: Plan, word: &str) -> Result<(), String> {
+    let onnx = Onnx::load(library);
+    if let Err(told) = &onnx {
+        println!("Without Protocol Buffers and onnx::checker (apt-get install libonnx-dev libprotobuf-dev): {told}\n");
+    }
+    let run = Run { folder: Path::new(folder), onnx: onnx.as_ref().ok(), library, plan };
+    println!("{}", report::workloads(&run, word)?);
+    if !word.is_empty() {
+        return Ok(());
+    }
+    let csv = report::sweep(&run);
+    let file = run.folder.join("sweep.csv");
+    fs::write(&file, &csv).map_err(|error| format!("{}: {error}", file.display()))?;
+    println!("Time against the number of nodes in a chain:\n\n{}", report::sweep_table(&csv));
+    Ok(())
+}
