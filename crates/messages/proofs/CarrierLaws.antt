@@ -18,7 +18,7 @@ use Rattle.wire.specs.Bytes.{Bytes}
 use Rattle.wire.specs.Wire.{field, fields}
 use Rattle.wire.specs.Message.{Message, allOf, firstOf, numberOf, message}
 use Rattle.wire.specs.Answers.{contentsOf, fieldSays, withCursor}
-use Rattle.wire.proofs.Lists.{no-first, true-T, T-false, subset, contains-subset, NoneOf, none-contained}
+use Rattle.wire.proofs.Lists.{or-swap, no-first, true-T, T-false, subset, contains-subset, NoneOf, none-contained}
 use Rattle.wire.proofs.CursorLaws.{answer-read, answer-refused}
 use Rattle.wire.proofs.Reading.{Fits, field-tells}
 use Rattle.wire.proofs.Fields.{fields-done, fields-step, fields-stop}
@@ -88,11 +88,6 @@ foreign-more mine place [] f fs = none (not (eqb (f .number) mine))
     none false = refl
 foreign-more mine place (e ∷ cs) f fs = go (eqb (e .1) (f .number)) refl (eqb (f .number) (e .1)) refl _ (foreign-more mine place cs f fs)
   where
-    swap : (a b c : Bool) → (a || (b || c)) ≡ (b || (a || c))
-    swap true true c = refl
-    swap true false c = refl
-    swap false b c = refl
-
     one : (q p c k r : Bool) → q ≡ p → ((q && true) || ((p && c) || r)) ≡ ((p && true) || ((q && k) || r))
     one q true c k r h = rw h refl
     one q false c k r h = rw h refl
@@ -108,7 +103,7 @@ foreign-more mine place (e ∷ cs) f fs = go (eqb (e .1) (f .number)) refl (eqb 
     go false h true k r ih = absurd (true≢false (sym (eq-eqb (e .1) (f .number) (sym (eqb→eq (f .number) (e .1) (true-T (eqb (f .number) (e .1)) k)))) ∙ h))
     go false h false k r ih =
         ap (λ (x : Bool). (not (eqb (e .1) mine) && not (isEmpty (keep (λ g. eqb (e .1) (g .number)) fs))) || x) ih
-        ∙ swap (not (eqb (e .1) mine) && not (isEmpty (keep (λ g. eqb (e .1) (g .number)) fs))) (not (eqb (f .number) mine) && contains (f .number) (map (λ c. c .1) cs)) (foreign mine cs (Holding place fs))
+        ∙ or-swap (not (eqb (e .1) mine) && not (isEmpty (keep (λ g. eqb (e .1) (g .number)) fs))) (not (eqb (f .number) mine) && contains (f .number) (map (λ c. c .1) cs)) (foreign mine cs (Holding place fs))
 
 foreign-place : (mine p q : ℕ) (cs : List (ℕ × ℕ)) (fs : List Field) → foreign mine cs (Holding p fs) ≡ foreign mine cs (Holding q fs)
 unfolding foreign allOf Holding

@@ -169,6 +169,11 @@ none-contained n (m ∷ more) h t = go (or-cases (eqb n m) (contains n more) t) 
     go (inr q) ih = ih q
 
 -- a list is empty where it has no first element
+pub or-swap : (a b c : Bool) → (a || (b || c)) ≡ (b || (a || c))
+or-swap true true c = refl
+or-swap true false c = refl
+or-swap false b c = refl
+
 pub no-first : {A : Type 0} (l : List A) → isEmpty l ≡ not (present (first l))
 unfolding isEmpty first present
 no-first [] = refl
