@@ -2,9 +2,11 @@
 ghost use mathlib.Core.Path.{_≡_};
 ghost use lib.ListN.{length, replicate};
 ghost use Rattle.rules.specs.Verdict.{verdict};
+ghost use Rattle.gate.specs.Meaning.{meaning, indexed};
 ghost use Rattle.gate_c.specs.Exports.{outcome, shownAt};
 use gate::Answer;
 use gate::check;
+use gate::check_indexed;
 
 // An answer with no cases: a refusal of 0 is an acceptance, and what does not apply is 0.
 #[repr(C)]
@@ -22,13 +24,10 @@ pub struct GatePart {
     pub length: u64,
 }
 
-// The check. What the cells held before does not matter.
-#[no_mangle]
-pub extern "C" fn onnx_gate_check(model: &[u8], operators: &[u8], cells: &mut [u32]) -> GateAnswer
-    ensures answer { λ r. ⌜ r ≡ outcome (verdict (now (model .entry)) (now (operators .entry)) (length (now (cells .entry)))) ⌝ }
-    ensures cleared { λ _. ⌜ now (cells .exit) ≡ replicate (length (now (cells .entry))) 0 ⌝ }
+fn in_numbers(answer: Answer) -> GateAnswer
+    ensures { λ r. ⌜ r ≡ outcome (meaning answer) ⌝ }
 {
-    match check(model, operators, cells) {
+    match answer {
         Answer::Accepted { nodes, names } => GateAnswer {
             refusal: 0,
             place: 0,
@@ -42,6 +41,31 @@ pub extern "C" fn onnx_gate_check(model: &[u8], operators: &[u8], cells: &mut [u
             names: 0,
         },
     }
+}
+
+// The check. What the cells held before does not matter.
+#[no_mangle]
+pub extern "C" fn onnx_gate_check(model: &[u8], operators: &[u8], cells: &mut [u32]) -> GateAnswer
+    ensures answer { λ r. ⌜ r ≡ outcome (verdict (now (model .entry)) (now (operators .entry)) (length (now (cells .entry)))) ⌝ }
+    ensures cleared { λ _. ⌜ now (cells .exit) ≡ replicate (length (now (cells .entry))) 0 ⌝ }
+{
+    in_numbers(check(model, operators, cells))
+}
+
+// The check with extra cells, which make it fast: 65 where they are fewer than four times the others, else the same answer, for every seed.
+#[no_mangle]
+pub extern "C" fn onnx_gate_check_indexed(
+    model: &[u8],
+    operators: &[u8],
+    cells: &mut [u32],
+    extra: &mut [u32],
+    seed: u64,
+) -> GateAnswer
+    ensures answer { λ r. ⌜ r ≡ outcome (indexed (length (now (extra .entry))) (length (now (cells .entry))) (verdict (now (model .entry)) (now (operators .entry)) (length (now (cells .entry))))) ⌝ }
+    ensures cleared { λ _. ⌜ now (cells .exit) ≡ replicate (length (now (cells .entry))) 0 ⌝ }
+    ensures extras { λ _. ⌜ now (extra .exit) ≡ replicate (length (now (extra .entry))) 0 ⌝ }
+{
+    in_numbers(check_indexed(model, operators, cells, extra, seed))
 }
 
 // The name service. No reference crosses: C gets where the part lies in the bytes that it has. Sizes are compared with what is

@@ -156,6 +156,10 @@ pub seek-start : (s : Bytes) (number : ℕ) (c : Cursor) → Seeking s number (c
 seek-start s number c = record { ends = refl; rest = refl }
 
 module _ {s : Bytes} {number end from : ℕ} {c : Cursor} (q : Seeking s number end from c) where
+  -- at a place, where the end is known
+  pub seek-on : Seeking s number end from (record { at = c .at; end = end })
+  seek-on = record { ends = refl; rest = q .rest }
+
   pub seek-done : end ≤ c .at → none ≡ soughtIn s number end from
   seek-done h = sym (sought-done s number end (c .at) h) ∙ q .rest
 

@@ -8,6 +8,7 @@ pub mod Again
 pub mod VarintLaws
 pub mod SliceLaws
 pub mod CursorLaws
+pub mod ShortLaws
 pub mod Refusing
 pub mod MessageLaws
 pub mod Along

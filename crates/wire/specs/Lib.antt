@@ -3,6 +3,7 @@ pub mod Lists
 pub mod Bytes
 pub mod Wire
 pub mod Answers
+pub mod Short
 pub mod Message
 pub mod Order
 pub mod Notation

@@ -1,47 +1,18 @@
-use Rattle.wire.specs.Answers.{fieldSays}
-use mathlib.Core.Path.{_∙_}
-use Rattle.wire.proofs.CursorLaws.{number-refused, number-read, length-refused, length-read, eight-read, four-read}
 use borrow.Author.Needs.{needs}
+use native.Mathlib.Omega.{arith}
+use Rattle.wire.proofs.ShortLaws.{short-contents}
 use Rattle.wire.proofs.Cursor.value.Statement.{statement}
 use Rattle.wire.proofs.Cursor.value.Tie as tie
 
-returns : tie.Need-returns
-unfolding fieldSays
-returns c = number-refused _ _ _ (c .before .before .before .read-varint .ensures) (c .before .before .before .before .if1 .taken) (c .before .r .given .1)
+add-next : tie.Need-add-next
+add-next c = let q = c .before .contents-size .ensures (omega arith) .inside in record { fits = omega arith }
+
+add-one : tie.Need-add-t10
+add-one c = let q = c .before .contents-size .ensures (omega arith) .inside in record { fits = omega arith }
 
 returns-2 : tie.Need-returns-2
-returns-2 c = c .sized-field .ensures ∙ number-read _ _ _ (c .before .before .before .before .read-varint .ensures) (c .before .before .before .before .before .if1 .taken) (c .before .before .v .given .1)
-
-returns-3 : tie.Need-returns-3
-unfolding fieldSays
-returns-3 c = length-refused _ _ _ (c .before .before .before .read-varint2 .ensures) (c .before .before .before .before .if2 .taken) (c .before .r2 .given .1)
-
-returns-4 : tie.Need-returns-4
-returns-4 c = c .sized-field2 .ensures ∙ length-read _ _ _ (c .before .before .before .before .read-varint2 .ensures) (c .before .before .before .before .before .if2 .taken) (c .before .before .v2 .given .1)
-
-returns-5 : tie.Need-returns-5
-returns-5 c = c .sized-field3 .ensures ∙ eight-read _ _ _ (c .before .if3 .taken)
-
-returns-6 : tie.Need-returns-6
-returns-6 c = c .sized-field4 .ensures ∙ four-read _ _ _ (c .before .before .before .if1 .left) (c .before .before .if2 .left) (c .before .if3 .left)
+returns-2 c = short-contents _ _ _ _ (c .before .contents-size .ensures (omega arith))
 
 pub value-spec : {M : Type 1} → statement M
 value-spec =
-    tie.close
-    (tie.spec
-    (λ c κs. search needs)
-    (λ c. search needs)
-    (λ c. search needs)
-    (λ c κs. search needs)
-    returns
-    returns-2
-    (λ c κs. search needs)
-    (λ c. search needs)
-    (λ c. search needs)
-    (λ c κs. search needs)
-    returns-3
-    returns-4
-    (λ c κs. search needs)
-    returns-5
-    (λ c κs. search needs)
-    returns-6)
+    tie.close (tie.spec (λ c κs. search needs) (λ c κs. search needs) (λ c. search needs) add-next add-one returns-2)
