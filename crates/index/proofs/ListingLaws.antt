@@ -104,6 +104,12 @@ module _ {model : Bytes} {seed : ℕ} where
 
 -- ---- a name more: r is the listing then
 
+pub same-empty : (x y : Bytes) → isEmpty x ≡ false → isEmpty y ≡ true → same x y ≡ false
+unfolding isEmpty same
+same-empty [] y i j = cc
+same-empty (a ∷ x) [] i j = refl
+same-empty (a ∷ x) (b ∷ y) i j = cc
+
 module _ {model : Bytes} {seed : ℕ} {l : Listing} {y : Bytes} {before : List ℕ} (ix : Indexed model seed (tableOf before) (known before)) (h : l .top ≤ known before) where
   pub added-none : l .whole ≡ false → Added model seed l y before before l
   added-none e = record {
@@ -113,6 +119,13 @@ module _ {model : Bytes} {seed : ℕ} {l : Listing} {y : Bytes} {before : List �
     where
       whole-not : l .whole ≡ true → ⊥
       whole-not t = subst T (sym t ∙ e) tt
+
+  -- the empty name is not listed
+  pub added-empty : isEmpty y ≡ true → Added model seed l y before before l
+  added-empty e = record {
+    held = held-all ix h;
+    listed = λ names later d w. listed-as (λ x k. w x k ∙ ap (λ (b : Bool). b || member x names) (same-empty x y k e)) d;
+  }
 
   module _ {after : List ℕ} (r : Remembered model seed (l .top) y before after) where
     pub added-full : Added model seed l y before after (record { base = l .base; top = l .top; whole = false })

@@ -14,6 +14,7 @@ use Rattle.wire.specs.Order.{Ordered}
 use Rattle.wire.specs.Message.{allOf, bytesOf, message}
 use Rattle.wire.specs.Answers.{contentsOf, soughtSays, soughtIn}
 use Rattle.wire.proofs.CursorLaws.{says}
+use Rattle.wire.proofs.Lists.{or-swap}
 use Rattle.wire.proofs.Along.{allFrom, Onward, all-none, all-some}
 use Rattle.messages.specs.Earlier.{before, namesIn}
 
@@ -42,6 +43,15 @@ pub before-all : (lo hi : ℕ) (l : List Field) → Ordered lo hi l → before h
 unfolding before
 before-all lo hi [] o = refl
 before-all lo hi (f ∷ l) o = before-here hi f l (omega arith) ∙ ap (λ (m : List Field). f ∷ m) (before-all (f .next) hi l (o .4))
+
+-- ---- the names in them
+
+pub names-last : (named : Field → Bytes) (x : Bytes) (pre : List Field) (f : Field) → member x (map named (pre ++ (f ∷ []))) ≡ (same x (named f) || member x (map named pre))
+unfolding member
+names-last named x [] f = refl
+names-last named x (g ∷ pre) f =
+    ap (λ (b : Bool). same x (named g) || b) (names-last named x pre f)
+    ∙ or-swap (same x (named g)) (same x (named f)) (member x (map named pre))
 
 -- ---- reading them again: `named` gives the name in a field, and the whole search answers `o`
 

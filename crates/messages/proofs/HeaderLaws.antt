@@ -1,6 +1,6 @@
 -- The rules of the header in the order of the code's tests.
 use Prim.Native.Nat.{ℕ, _≤_, _<_}
-use mathlib.Core.Path.{_≡_, sym, ap, _∙_}
+use mathlib.Core.Path.{_≡_, refl, sym, ap, subst, _∙_}
 use mathlib.Core.Bool.{Bool, true, false, not}
 use mathlib.Core.List.{List, []}
 use mathlib.Core.Option.{Option, none, some}
@@ -21,6 +21,10 @@ use Rattle.schema.specs.Answers.{silent}
 use Rattle.rules.specs.Header.{opsetImport, header}
 use Rattle.messages.specs.Imports.{importsIn}
 use Rattle.messages.specs.Answers.{rulingSays}
+use Rattle.messages.specs.Imported.{rulingOf, headed, holds}
+use Rattle.messages.specs.declared.imports.Imports.{Imports}
+use Rattle.messages.specs.declared.imports.Heading.{Heading}
+use Rattle.messages.specs.declared.imports.Heading.the-variants as heading
 use Rattle.messages.specs.declared.Ruling.{Ruling}
 use Rattle.messages.specs.declared.Ruling.the-variants as ruling
 use Rattle.messages.proofs.ImportLaws.{All, imports-agree}
@@ -34,6 +38,33 @@ version-below n h = simp (lt-leb 4 n h)
 pub version-rest : (n : ℕ) → 4 ≤ n → leb n 10 ≡ within 4 10 n
 unfolding within
 version-rest n h = simp (le-leb 4 n h)
+
+-- ---- the answer of the header, as a ruling
+
+module _ (i : Imports) {r : Heading} (q : Ruling) (e : r ≡ headed i q) where
+  pub headed-same : rulingOf r ≡ q
+  unfolding rulingOf headed
+  headed-same = ap rulingOf e ∙ go q
+    where
+      go : (q : Ruling) → rulingOf (headed i q) ≡ q
+      go ruling.Kept = refl
+      go (ruling.Refused x) = refl
+
+  pub headed-holds : {x : Refusal} → q ≡ ruling.Refused x → (model : Bytes) (seed : ℕ) (lists : List ℕ) → holds model seed lists r
+  unfolding holds headed
+  headed-holds k model seed lists = rw (e ∙ ap (headed i) k) tt
+
+module _ {h : Heading} where
+  pub refused-heading : {x : Refusal} → h ≡ heading.Refused x → rulingOf h ≡ ruling.Refused x
+  unfolding rulingOf
+  refused-heading e = ap rulingOf e
+
+  pub imported-heading : {i : Imports} → h ≡ heading.Imported i → rulingOf h ≡ ruling.Kept
+  unfolding rulingOf
+  imported-heading e = ap rulingOf e
+
+  pub holds-as : {g : Heading} → h ≡ g → (model : Bytes) (seed : ℕ) (lists : List ℕ) → holds model seed lists h → holds model seed lists g
+  holds-as e model seed lists k = subst (λ (x : Heading). holds model seed lists x) e k
 
 -- ---- the header: m is the whole model, n its version, b whether it is one of those that are judged
 

@@ -3,7 +3,7 @@ use Prim.Native.Nat.{ℕ, _-_, _<_}
 use native.Mathlib.Omega.{arith}
 use mathlib.Core.Path.{_≡_, refl, sym, ap, subst, _∙_}
 use mathlib.Core.Bool.{Bool, true, false, not, _||_}
-use mathlib.Core.List.{List, [], _∷_, _++_, map, append-assoc}
+use mathlib.Core.List.{List, [], _∷_, _++_, map, append-assoc, append-nil}
 use lib.ListN.{length}
 use Rattle.wire.specs.Outcome.{pass, _>>=_, _>>_, each, Judged, refused, refuse_at:_when:_}
 use Rattle.wire.specs.Bytes.{Bytes, same, member}
@@ -26,7 +26,13 @@ use Rattle.schema.specs.Answers.{silent}
 use Rattle.rules.specs.Header.{opsetImport}
 use Rattle.messages.specs.Earlier.{before}
 use Rattle.messages.specs.Imports.{importOf, importsIn, importsBefore}
-use Rattle.messages.proofs.EarlierLaws.{before-split, before-all, Rereading}
+use Rattle.messages.proofs.EarlierLaws.{before-split, before-all, names-last, Rereading}
+use Rattle.index.specs.Table.{Indexed}
+use Rattle.index.specs.Memory.{known, tableOf}
+use Rattle.index.specs.Listing.{Held}
+use Rattle.index.proofs.ListingLaws.{held-all, held-fewer, held-then, listed-begin}
+use Rattle.messages.specs.Imported.{Imported, ImportAdded}
+use Rattle.messages.specs.declared.imports.Imports.{Imports}
 use Rattle.messages.specs.Answers.{rulingSays}
 use Rattle.messages.specs.declared.Ruling.{Ruling}
 use Rattle.messages.specs.declared.Ruling.the-variants as ruling
@@ -213,3 +219,38 @@ module _ {model list : Bytes} {c : Cursor} (q : Importing model list c) {a : Sou
                 ∙ ap (λ (o : Judged (List Bytes)). o >>= λ t. each (opsetImport model list) t (f ∷ [])) (q .past)
                 ∙ ap (λ (o : Judged (List Bytes)). o >>= λ t. pass t) (p .1);
           }
+
+-- ---- the same loop, with what is kept of the imports behind it
+
+pub record Keeping (model list : Bytes) (seed : ℕ) (first lists : List ℕ) (i : Imports) (c : Cursor) : Type 0 where
+  pub importing : Importing model list c
+  pub imported : Imported model seed lists i (map (importOf model) (importing .pre))
+  pub held : Held model seed 0 first lists
+
+pub keeping-start : (model list : Bytes) (seed : ℕ) {lists : List ℕ} → Indexed model seed (tableOf lists) (known lists) → Keeping model list seed lists lists (record { listing = record { base = 0; top = 0; whole = true }; default = false }) (contentsOf (whole model))
+unfolding importing-start member
+keeping-start model list seed ix = record {
+  importing = importing-start model list;
+  imported = record { listed = listed-begin ix (omega arith) refl; default = refl };
+  held = held-all ix (omega arith);
+}
+
+module _ {model list : Bytes} {seed : ℕ} {first lists : List ℕ} {i : Imports} {c : Cursor} (q : Keeping model list seed first lists i c) {a : Sought} (read : soughtSays a ≡ soughtIn model Model·opset-import (c .end) (c .at)) where
+  pub keeping-end : a ≡ sought.Missing → Imported model seed lists i (importsIn model)
+  unfolding importsIn
+  keeping-end e =
+      let all : q .importing .pre ≡ All model = sym (q .importing .split ∙ ap (λ (l : List Field). q .importing .pre ++ l) (none-left model c (q .importing .ends) read e) ∙ append-nil (q .importing .pre)) in
+      subst (λ (l : List Field). Imported model seed lists i (map (importOf model) l)) all (q .imported)
+
+  module _ {f : Field} {next : Cursor} (e : a ≡ sought.Found f next) where
+    pub keeping-before : Imported model seed lists i (importsBefore model (f .place))
+    unfolding importsBefore
+    keeping-before = subst (λ (l : List Field). Imported model seed lists i (map (importOf model) l)) (sym (seen (q .importing) read e)) (q .imported)
+
+    pub keeping-goes : (r : Ruling) → rulingSays r ≡ silent (opsetImport model list (importsBefore model (f .place)) f) → r ≡ ruling.Kept → {later : List ℕ} {more : Imports} → ImportAdded model seed i f lists later more → Keeping model list seed first later more next
+    unfolding importing-goes
+    keeping-goes r ruled k added = record {
+      importing = importing-goes (q .importing) read e r ruled k;
+      imported = added .imported (map (importOf model) (q .importing .pre)) _ (q .imported) (λ x. names-last (importOf model) x (q .importing .pre) f);
+      held = held-then (q .held) (held-fewer (omega arith) (added .held));
+    }

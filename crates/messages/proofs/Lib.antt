@@ -3,6 +3,7 @@ pub mod RulingLaws
 pub mod TypeLaws
 pub mod NameLaws
 pub mod EarlierLaws
+pub mod ListedLaws
 pub mod CarrierLaws
 pub mod AttributeLaws
 pub mod NodeLaws

@@ -12,7 +12,9 @@ use Rattle.wire.specs.declared.Field.{Field}
 use Rattle.wire.specs.Lists.{isEmpty}
 use Rattle.wire.specs.Bytes.{Bytes}
 use Rattle.wire.specs.Message.{firstOf, placeOf, text, bytesOf, message}
-use Rattle.wire.proofs.Passing.{fail-no-pass, pass-same, passed-seq}
+use Rattle.wire.proofs.Lists.{T-false}
+use Rattle.wire.proofs.CursorLaws.{says}
+use Rattle.wire.proofs.Passing.{fail-no-pass, pass-same, passed-seq, passed-rule}
 use Rattle.wire.proofs.MessageLaws.{first-placed}
 use Rattle.wire.proofs.Refusing.{when-broken, when-kept}
 use Rattle.schema.specs.Answers.{silent}
@@ -88,3 +90,12 @@ module _ (model : Bytes) (empty number : ℕ) (m : Field) {x : Name} (k : pass x
       let e : name-field .0 .place ≡ x .place = ap (λ (y : Name). y .place) (name-field .2) in
       let h = first-placed model number m (name-field .1) in
       omega arith
+
+-- and is not empty
+pub named-some : (model : Bytes) (empty number : ℕ) (m : Field) (n : Naming) → namingSays model n ≡ naming model empty number (message model m) → {g : Field} → n ≡ naming-answer.Named g → isEmpty (text model g) ≡ false
+unfolding namingSays naming nameIn nameOf
+named-some model empty number m n e {g} k =
+    let passed : naming model empty number (message model m) ≡ pass (nameIn model g) = sym (says (namingSays model) e k) in
+    let unnamed = T-false _ (passed-rule empty _ _ (passed-seq _ _ _ passed .0)) in
+    let read = pass-same _ _ (passed-seq _ _ _ (passed-seq _ _ _ passed .1) .1) in
+    ap (λ (x : Name). isEmpty (x .bytes)) (sym read) ∙ unnamed

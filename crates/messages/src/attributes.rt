@@ -1,10 +1,13 @@
 // What is asked of an attribute before its graphs are judged.
 ghost use mathlib.Core.Path.{_≡_};
+ghost use Rattle.schema.specs.Numbers.{Node·attribute, Attribute·name};
+ghost use Rattle.index.specs.Listing.{Listed};
+ghost use Rattle.messages.specs.Earlier.{earlierIn};
 ghost use Rattle.messages.specs.Heads.{attributeRules};
 ghost use Rattle.messages.specs.Answers.{rulingSays};
 use crate::Ruling;
 use crate::carriers::is_bad_value;
-use crate::earlier::is_earlier;
+use crate::earlier::is_listed;
 use crate::names::Naming;
 use crate::names::misnaming;
 use crate::names::read_name;
@@ -12,18 +15,30 @@ use crate::numbers::ATTRIBUTE_NAME;
 use crate::numbers::ATTRIBUTE_REF_ATTR_NAME;
 use crate::numbers::NODE_ATTRIBUTE;
 use crate::rulings::refused;
+use index::Listing;
 use wire::Field;
 
 // "Attribute: 22, 21, 31, 33, 32; then its graphs in order": all but the graphs.
-pub fn attribute_rules(model: &[u8], node: Field, a: Field) -> Ruling
+pub fn attribute_rules(
+    model: &[u8],
+    lists: &[u32],
+    seed: u64,
+    l: Listing,
+    node: Field,
+    a: Field,
+) -> Ruling
+    requires { ⌜ Listed (now model) seed (now lists) l (earlierIn (now model) Node·attribute Attribute·name node a) ⌝ }
     ensures { λ r. ⌜ rulingSays r ≡ attributeRules (now (model .entry)) node a ⌝ }
 {
     let naming = read_name(model, a, ATTRIBUTE_NAME, Ruling::NAME_EMPTY);
     let Naming::Named(name) = naming else {
         return misnaming(naming);
     };
-    if is_earlier(
+    if is_listed(
         model,
+        lists,
+        seed,
+        l,
         node,
         NODE_ATTRIBUTE,
         ATTRIBUTE_NAME,

@@ -1,22 +1,25 @@
 // The rules of the second walk that look at one message alone and need no scope: what the header, a type, an attribute and a node say
-// of themselves. Names that stood earlier in a list are read again where they stand.
+// of themselves. Names that stood earlier in a list are found by a listing, or read again where they stand.
 mod attributes;
 mod carriers;
 mod earlier;
 mod headers;
+mod imports;
 mod names;
 mod nodes;
 pub mod numbers;
 mod rulings;
 mod types;
+mod wholes;
 
 pub use attributes::attribute_rules;
 pub use carriers::carrier_of;
 pub use carriers::is_body;
-pub use earlier::is_earlier;
-pub use headers::has;
+pub use earlier::is_listed;
+pub use earlier::list_name;
 pub use headers::header;
-pub use headers::whole;
+pub use imports::Heading;
+pub use imports::Imports;
 pub use names::Naming;
 pub use names::misnaming;
 pub use names::read_name;
@@ -24,6 +27,8 @@ pub use nodes::node_head;
 pub use rulings::refused;
 pub use types::is_element;
 pub use types::main_type;
+pub use wholes::has;
+pub use wholes::whole;
 use wire::Refusal;
 
 // A rule is kept, or is the first to be broken.

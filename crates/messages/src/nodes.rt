@@ -4,12 +4,16 @@ ghost use Rattle.wire.specs.Message.{message};
 ghost use Rattle.schema.specs.Numbers.{Graph·node, Node·name};
 ghost use Rattle.schema.specs.Answers.{silent};
 ghost use Rattle.rules.specs.Node.{nodeName};
+ghost use Rattle.index.specs.Listing.{Listed};
 ghost use Rattle.messages.specs.Earlier.{earlierIn};
+ghost use Rattle.messages.specs.Imports.{importsIn};
+ghost use Rattle.messages.specs.Imported.{Imported};
 ghost use Rattle.messages.specs.Heads.{nodeHead};
 ghost use Rattle.messages.specs.Answers.{rulingSays};
 use crate::Ruling;
-use crate::earlier::is_earlier;
-use crate::headers::is_imported;
+use crate::earlier::is_listed;
+use crate::imports::Imports;
+use crate::imports::is_imported;
 use crate::names::Naming;
 use crate::names::misnaming;
 use crate::names::read_name;
@@ -18,12 +22,21 @@ use crate::numbers::NODE_DOMAIN;
 use crate::numbers::NODE_NAME;
 use crate::numbers::NODE_OP_TYPE;
 use crate::rulings::refused;
+use index::Listing;
 use rules::is_identifier;
 use wire::Field;
 use wire::Sought;
 
 // "a nonempty node name (21, 29)"
-fn node_name(model: &[u8], graph: Field, node: Field) -> Ruling
+fn node_name(
+    model: &[u8],
+    lists: &[u32],
+    seed: u64,
+    l: Listing,
+    graph: Field,
+    node: Field,
+) -> Ruling
+    requires { ⌜ Listed (now model) seed (now lists) l (earlierIn (now model) Graph·node Node·name graph node) ⌝ }
     ensures { λ r. ⌜ rulingSays r ≡ silent (nodeName (now (model .entry)) (earlierIn (now (model .entry)) Graph·node Node·name graph node) (message (now (model .entry)) node)) ⌝ }
 {
     let Sought::Found(name, _) = node.first_of(model, NODE_NAME) else {
@@ -36,22 +49,35 @@ fn node_name(model: &[u8], graph: Field, node: Field) -> Ruling
     if !is_identifier(text) {
         return refused(Ruling::NOT_IDENTIFIER, name.place);
     }
-    if is_earlier(model, graph, GRAPH_NODE, NODE_NAME, node.place, text) {
+    if is_listed(
+        model, lists, seed, l, graph, GRAPH_NODE, NODE_NAME, node.place, text,
+    ) {
         return refused(Ruling::NODE_NAME_TWICE, name.place);
     }
     Ruling::Kept
 }
 
 // "op_type (27, 21); 28; a nonempty node name (21, 29)"
-pub fn node_head(model: &[u8], graph: Field, f: Field) -> Ruling
+pub fn node_head(
+    model: &[u8],
+    lists: &[u32],
+    seed: u64,
+    imports: Imports,
+    l: Listing,
+    graph: Field,
+    f: Field,
+) -> Ruling
+    requires { ⌜ Imported (now model) seed (now lists) imports (importsIn (now model)) ⌝ }
+    requires { ⌜ Listed (now model) seed (now lists) l (earlierIn (now model) Graph·node Node·name graph f) ⌝ }
     ensures { λ r. ⌜ rulingSays r ≡ nodeHead (now (model .entry)) graph f ⌝ }
 {
     let naming = read_name(model, f, NODE_OP_TYPE, Ruling::OP_TYPE_EMPTY);
     let Naming::Named(_) = naming else {
         return misnaming(naming);
     };
-    if !is_imported(model, f.bytes_of(model, NODE_DOMAIN)) {
+    let end = model.len();
+    if !is_imported(model, lists, seed, imports, end, f.bytes_of(model, NODE_DOMAIN)) {
         return refused(Ruling::NOT_IMPORTED, f.place_of(model, NODE_DOMAIN));
     }
-    node_name(model, graph, f)
+    node_name(model, lists, seed, l, graph, f)
 }

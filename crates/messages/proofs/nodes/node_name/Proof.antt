@@ -1,3 +1,4 @@
+use Rattle.messages.proofs.NameLaws.{empty-some}
 use mathlib.Core.Path.{_∙_}
 use borrow.Author.Tests.{not-true, not-false}
 use Rattle.wire.proofs.MessageLaws.{missing, found}
@@ -21,11 +22,15 @@ returns-3 c = c .refused .ensures ∙ node-misnamed _ _ _ (found _ _ _ _ (c .bef
 
 returns-4 : tie.Need-returns-4
 unfolding earlierIn
-returns-4 c = c .refused2 .ensures ∙ node-twice _ _ _ (found _ _ _ _ (c .before .before .before .before .before .before .before .before .before .before .first-of .ensures) (c .before .before .before .before .before .before .before .before .name .given .1)) (c .before .before .before .before .before .before .text .ensures) (c .before .before .before .before .before .if1 .left) (c .before .before .before .before .is-identifier .ensures) (not-false _ (c .before .before .before .if2 .left)) (c .before .before .is-earlier .ensures) (c .before .if3 .taken)
+returns-4 c = c .refused2 .ensures ∙ node-twice _ _ _ (found _ _ _ _ (c .before .before .before .before .before .before .before .before .before .before .first-of .ensures) (c .before .before .before .before .before .before .before .before .name .given .1)) (c .before .before .before .before .before .before .text .ensures) (c .before .before .before .before .before .if1 .left) (c .before .before .before .before .is-identifier .ensures) (not-false _ (c .before .before .before .if2 .left)) (c .before .before .is-listed .ensures) (c .before .if3 .taken)
 
 returns-5 : tie.Need-returns-5
 unfolding rulingSays earlierIn
-returns-5 c = node-named _ _ _ (found _ _ _ _ (c .before .before .before .before .before .before .before .before .before .first-of .ensures) (c .before .before .before .before .before .before .before .name .given .1)) (c .before .before .before .before .before .text .ensures) (c .before .before .before .before .if1 .left) (c .before .before .before .is-identifier .ensures) (not-false _ (c .before .before .if2 .left)) (c .before .is-earlier .ensures) (c .if3 .left)
+returns-5 c = node-named _ _ _ (found _ _ _ _ (c .before .before .before .before .before .before .before .before .before .first-of .ensures) (c .before .before .before .before .before .before .before .name .given .1)) (c .before .before .before .before .before .text .ensures) (c .before .before .before .before .if1 .left) (c .before .before .before .is-identifier .ensures) (not-false _ (c .before .before .if2 .left)) (c .before .is-listed .ensures) (c .if3 .left)
+
+is-listed-requires : tie.Need-is-listed-requires
+unfolding earlierIn
+is-listed-requires c κs = (c .before .before .before .before .before .before .before .before .before .before .pre, empty-some _ (c .before .before .if1 .left))
 
 pub node-name-spec : {M : Type 1} → statement M
 node-name-spec =
@@ -40,7 +45,7 @@ node-name-spec =
     (λ c κs. search needs)
     (λ c κs. search needs)
     returns-3
-    (λ c κs. search needs)
+    is-listed-requires
     (λ c κs. search needs)
     returns-4
     returns-5)

@@ -1,8 +1,8 @@
 use Rattle.wire.proofs.MessageLaws.{missing, found}
 use Rattle.messages.proofs.HeaderLaws.{has-none, has-some}
 use borrow.Author.Needs.{needs}
-use Rattle.messages.proofs.headers.has.Statement.{statement}
-use Rattle.messages.proofs.headers.has.Tie as tie
+use Rattle.messages.proofs.wholes.has.Statement.{statement}
+use Rattle.messages.proofs.wholes.has.Tie as tie
 
 returns : tie.Need-returns
 returns c = has-some (found _ _ _ _ (c .before .before .first-of .ensures) (c .enum-told .given .1))

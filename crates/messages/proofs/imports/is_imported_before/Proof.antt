@@ -9,8 +9,8 @@ use Rattle.messages.specs.Imports.{importOf, importsBefore}
 use Rattle.messages.proofs.EarlierLaws.{Rereading, reread-done, reread-past, reread-here, reread-next, reread-falls}
 use Rattle.messages.proofs.ImportLaws.{imports-again, same-import}
 use borrow.Author.Needs.{needs}
-use Rattle.messages.proofs.headers.is_imported_before.Statement.{statement}
-use Rattle.messages.proofs.headers.is_imported_before.Tie as tie
+use Rattle.messages.proofs.imports.is_imported_before.Statement.{statement}
+use Rattle.messages.proofs.imports.is_imported_before.Tie as tie
 
 abbrev Inv-loop : tie.InvT-loop
 Inv-loop model place d c₀ c = Rereading model Model·opset-import (length model) (importOf model) place (domain d) (member (domain d) (importsBefore model place)) c

@@ -1,7 +1,7 @@
 use mathlib.Core.Path.{refl}
 use Rattle.wire.specs.Message.{whole}
-use Rattle.messages.proofs.headers.whole.Statement.{statement}
-use Rattle.messages.proofs.headers.whole.Tie as tie
+use Rattle.messages.proofs.wholes.whole.Statement.{statement}
+use Rattle.messages.proofs.wholes.whole.Tie as tie
 
 returns : tie.Need-returns
 unfolding whole

@@ -1,0 +1,16 @@
+use mathlib.Core.Path.{refl}
+use Rattle.messages.specs.Answers.{rulingSays}
+use Rattle.messages.specs.Imported.{rulingOf, holds}
+use borrow.Author.Needs.{needs}
+use Rattle.messages.proofs.headers.unheaded.Statement.{statement}
+use Rattle.messages.proofs.headers.unheaded.Tie as tie
+
+returns : tie.Need-returns
+unfolding rulingSays rulingOf holds
+returns c = (refl, λ m s l. tt)
+
+pub unheaded-spec : {M : Type 1} → statement M
+unheaded-spec =
+    tie.close
+    (tie.spec
+    returns)

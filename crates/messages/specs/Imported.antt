@@ -1,0 +1,37 @@
+-- What is kept of the imports, and what the header answers with it. No rule speaks of this; contracts of the code do.
+use Prim.Native.Nat.{ℕ}
+use mathlib.Core.Path.{_≡_}
+use mathlib.Core.Bool.{_||_}
+use mathlib.Core.List.{List, []}
+use Rattle.wire.specs.declared.Field.{Field}
+use Rattle.wire.specs.Bytes.{Bytes, same, member}
+use Rattle.index.specs.Listing.{Listed, Held}
+use Rattle.messages.specs.Imports.{importOf, importsIn}
+use Rattle.messages.specs.declared.Ruling.{Ruling}
+use Rattle.messages.specs.declared.Ruling.the-variants as ruling
+use Rattle.messages.specs.declared.imports.Imports.{Imports}
+use Rattle.messages.specs.declared.imports.Heading.{Heading}
+use Rattle.messages.specs.declared.imports.Heading.the-variants as heading
+
+-- These domains are imported: those with a name are listed, and of the one that has none it is known whether it is among them.
+pub record Imported (model : Bytes) (seed : ℕ) (lists : List ℕ) (i : Imports) (domains : List Bytes) : Type 0 where
+  pub listed : Listed model seed lists (i .listing) domains
+  pub default : i .default ≡ member [] domains
+
+-- The import of a field was added.
+pub record ImportAdded (model : Bytes) (seed : ℕ) (i : Imports) (f : Field) (before after : List ℕ) (r : Imports) : Type 0 where
+  pub held : Held model seed (i .listing .top) before after
+  pub imported : (domains later : List Bytes) → Imported model seed before i domains → ((x : Bytes) → member x later ≡ (same x (importOf model f) || member x domains)) → Imported model seed after r later
+
+unfoldable pub rulingOf : Heading → Ruling
+rulingOf (heading.Imported i) = ruling.Kept
+rulingOf (heading.Refused r) = ruling.Refused r
+
+unfoldable pub headed : Imports → Ruling → Heading
+headed i ruling.Kept = heading.Imported i
+headed i (ruling.Refused r) = heading.Refused r
+
+-- A header that passes leaves the model's imports.
+unfoldable pub holds : (model : Bytes) (seed : ℕ) (lists : List ℕ) → Heading → Type 0
+holds model seed lists (heading.Imported i) = Imported model seed lists i (importsIn model)
+holds model seed lists (heading.Refused r) = Unit {0}

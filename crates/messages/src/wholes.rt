@@ -1,0 +1,33 @@
+// The model as a message, and whether a message has a field.
+ghost use mathlib.Core.Path.{_≡_};
+ghost use Rattle.wire.specs.Lists.{present};
+ghost use Rattle.wire.specs.Message.{firstOf, message, whole};
+use wire::Field;
+use wire::Sought;
+
+// The wire type of a field with contents.
+const LEN: u64 = 2;
+
+// The model itself, as if it were the contents of a field: "and 0 for the model".
+pub fn whole(model: &[u8]) -> Field
+    ensures { λ r. ⌜ r ≡ whole (now (model .entry)) ⌝ }
+{
+    Field {
+        place: 0,
+        number: 0,
+        wire: LEN,
+        value: 0,
+        start: 0,
+        next: model.len(),
+    }
+}
+
+// Does a field with this number stand in the message that a field holds?
+pub fn has(model: &[u8], m: Field, number: u64) -> bool
+    ensures { λ r. ⌜ r ≡ present (firstOf number (message (now (model .entry)) m)) ⌝ }
+{
+    match m.first_of(model, number) {
+        Sought::Found(_, _) => true,
+        Sought::Missing => false,
+    }
+}
