@@ -82,14 +82,14 @@ module _ {model : Bytes} {seed : ℕ} where
   -- ---- what is listed
 
   -- where nothing is listed yet
-  pub listed-begin : {top : ℕ} {cells : List ℕ} → Indexed model seed (tableOf cells) (known cells) → top ≤ known cells → {l : Listing} → l ≡ record { base = top; top = top; whole = true } → Listed model seed cells l []
+  pub listed-begin : {top : ℕ} {cells : List ℕ} → Indexed model seed (tableOf cells) (known cells) → top ≤ known cells → (w : Bool) → Listed model seed cells (record { base = top; top = top; whole = w }) []
   unfolding member
-  listed-begin {top} {cells} ix h e = rw e (record {
+  listed-begin {top} {cells} ix h w = record {
     index = ix;
     rises = omega arith;
     fits = h;
-    finds = λ w x k. since-none x (namesIn model (tableOf cells) top) top (omega (arith, names-length model (tableOf cells) top));
-  })
+    finds = λ t x k. since-none x (namesIn model (tableOf cells) top) top (omega (arith, names-length model (tableOf cells) top));
+  }
 
   pub listed-held : {l : Listing} {names : List Bytes} {before after : List ℕ} → Held model seed (l .top) before after → Listed model seed before l names → Listed model seed after l names
   listed-held {l} h d = record {
@@ -114,6 +114,7 @@ module _ {model : Bytes} {seed : ℕ} {l : Listing} {y : Bytes} {before : List �
   pub added-none : l .whole ≡ false → Added model seed l y before before l
   added-none e = record {
     held = held-all ix h;
+    rises = omega arith;
     listed = λ names later d w. record { index = ix; rises = d .rises; fits = h; finds = λ t. absurd (whole-not t) };
   }
     where
@@ -124,6 +125,7 @@ module _ {model : Bytes} {seed : ℕ} {l : Listing} {y : Bytes} {before : List �
   pub added-empty : isEmpty y ≡ true → Added model seed l y before before l
   added-empty e = record {
     held = held-all ix h;
+    rises = omega arith;
     listed = λ names later d w. listed-as (λ x k. w x k ∙ ap (λ (b : Bool). b || member x names) (same-empty x y k e)) d;
   }
 
@@ -131,6 +133,7 @@ module _ {model : Bytes} {seed : ℕ} {l : Listing} {y : Bytes} {before : List �
     pub added-full : Added model seed l y before after (record { base = l .base; top = l .top; whole = false })
     added-full = record {
       held = held-remembered ix r h;
+      rises = omega arith;
       listed = λ names later d w. record { index = held-remembered ix r h .index; rises = d .rises; fits = held-remembered ix r h .fits; finds = λ t. absurd (not-whole t) };
     }
       where
@@ -140,6 +143,7 @@ module _ {model : Bytes} {seed : ℕ} {l : Listing} {y : Bytes} {before : List �
     pub added-more : l .top < known after → l .whole ≡ true → Added model seed l y before after (record { base = l .base; top = l .top + 1; whole = true })
     added-more k w = record {
       held = held-remembered ix r h;
+      rises = omega arith;
       listed = λ names later d more. record {
         index = held-remembered ix r h .index;
         rises = (let up = d .rises in omega arith);

@@ -32,4 +32,5 @@ With name names later = (x : Bytes) → isEmpty x ≡ false → member x later �
 -- A name was added to a list: what listed its names before lists them now, and this one.
 pub record Added (model : Bytes) (seed : ℕ) (l : Listing) (name : Bytes) (before after : List ℕ) (r : Listing) : Type 0 where
   pub held : Held model seed (l .top) before after
+  pub rises : l .top ≤ r .top
   pub listed : (names later : List Bytes) → Listed model seed before l names → With name names later → Listed model seed after r later

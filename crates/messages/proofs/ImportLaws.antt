@@ -17,6 +17,7 @@ use Rattle.wire.specs.declared.Sought.{Sought}
 use Rattle.wire.specs.declared.Sought.the-variants as sought
 use Rattle.wire.proofs.Passing.{pass-same, passed-bind, passed-seq}
 use Rattle.wire.proofs.Fields.{all-of-ordered}
+use Rattle.wire.proofs.Lists.{or-shift, or-false}
 use Rattle.wire.proofs.Refusing.{when-broken, when-kept}
 use Rattle.wire.proofs.CursorLaws.{says}
 use Rattle.wire.proofs.Along.{allFrom, Onward, all-none, all-some}
@@ -129,21 +130,11 @@ module _ (model list : Bytes) where
       let p = passed-bind (opsetImport model list s f) (λ u. each (opsetImport model list) u l) t e in
       imports-member l (p .0) t (p .2) x
       ∙ ap (λ (u : List Bytes). member x (map (importOf model) l) || member x u) (sym (opset-passed s (p .0) f (p .1)))
-      ∙ swap (member x (map (importOf model) l)) (same x (importOf model f)) (member x s)
-    where
-      swap : (a b c : Bool) → (a || (b || c)) ≡ ((b || a) || c)
-      swap true true c = refl
-      swap true false c = refl
-      swap false true c = refl
-      swap false false c = refl
+      ∙ or-shift (member x (map (importOf model) l)) (same x (importOf model f)) (member x s)
 
   pub imports-agree : (l : List Field) (t : List Bytes) → each (opsetImport model list) [] l ≡ pass t → (x : Bytes) → member x t ≡ member x (map (importOf model) l)
   unfolding member
-  imports-agree l t e x = imports-member l [] t e x ∙ go (member x (map (importOf model) l))
-    where
-      go : (b : Bool) → (b || false) ≡ b
-      go true = refl
-      go false = refl
+  imports-agree l t e x = imports-member l [] t e x ∙ or-false (member x (map (importOf model) l))
 
   -- only the members of the list matter to the next import
   opset-agrees : (a b : List Bytes) (f : Field) → ((x : Bytes) → member x a ≡ member x b) → silent (opsetImport model list a f) ≡ silent (opsetImport model list b f)
@@ -231,7 +222,7 @@ pub keeping-start : (model list : Bytes) (seed : ℕ) {lists : List ℕ} → Ind
 unfolding importing-start member
 keeping-start model list seed ix = record {
   importing = importing-start model list;
-  imported = record { listed = listed-begin ix (omega arith) refl; default = refl };
+  imported = record { listed = listed-begin ix (omega arith) true; default = refl };
   held = held-all ix (omega arith);
 }
 

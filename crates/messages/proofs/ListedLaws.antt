@@ -13,9 +13,9 @@ use Rattle.operators.specs.Operators.{onnx, domain}
 use Rattle.schema.specs.Numbers.{OperatorSetId·domain}
 use Rattle.index.specs.Table.{namesIn, seek, since, Indexed}
 use Rattle.index.specs.Memory.{known, tableOf}
-use Rattle.index.specs.Listing.{Listed, Added}
+use Rattle.index.specs.Listing.{Listed, Held, Added}
 use Rattle.index.specs.declared.listings.Listing.{Listing}
-use Rattle.index.proofs.ListingLaws.{held-all, listed-as, same-empty}
+use Rattle.index.proofs.ListingLaws.{held-all, listed-held, listed-as, same-empty}
 use Rattle.messages.specs.Imports.{importOf}
 use Rattle.messages.specs.Imported.{Imported, ImportAdded}
 use Rattle.messages.specs.declared.imports.Imports.{Imports}
@@ -61,6 +61,9 @@ module _ {model : Bytes} {seed : ℕ} {lists : List ℕ} {i : Imports} {domains 
 
   pub imported-named : (length y ≡ 0 → ⊥) → i .listing .whole ≡ true → {b : Bool} → b ≡ since (i .listing .base) (seek y (namesIn model (tableOf lists) (i .listing .top))) → b ≡ member (domain z) domains
   imported-named h w found = found ∙ d .listed .finds w y (empty-some y h) ∙ ap (λ (x : Bytes). member x domains) e
+
+pub imported-held : {model : Bytes} {seed : ℕ} {i : Imports} {domains : List Bytes} {before after : List ℕ} → Held model seed (i .listing .top) before after → Imported model seed before i domains → Imported model seed after i domains
+imported-held h d = record { listed = listed-held h (d .listed); default = d .default }
 
 -- ---- one import more
 

@@ -168,12 +168,23 @@ none-contained n (m ∷ more) h t = go (or-cases (eqb n m) (contains n more) t) 
     go (inl q) ih = h .1 (eqb→eq n m q)
     go (inr q) ih = ih q
 
--- a list is empty where it has no first element
+-- alternatives that change places, and one that does not hold
 pub or-swap : (a b c : Bool) → (a || (b || c)) ≡ (b || (a || c))
 or-swap true true c = refl
 or-swap true false c = refl
 or-swap false b c = refl
 
+pub or-shift : (a b c : Bool) → (a || (b || c)) ≡ ((b || a) || c)
+or-shift true true c = refl
+or-shift true false c = refl
+or-shift false true c = refl
+or-shift false false c = refl
+
+pub or-false : (a : Bool) → (a || false) ≡ a
+or-false true = refl
+or-false false = refl
+
+-- a list is empty where it has no first element
 pub no-first : {A : Type 0} (l : List A) → isEmpty l ≡ not (present (first l))
 unfolding isEmpty first present
 no-first [] = refl

@@ -1,0 +1,123 @@
+-- A scope of which extra cells remember names.
+use Prim.Native.Nat.{ℕ, zero, suc, _+_, _-_, _*_, _/_, _≤_, _<_, min}
+use native.Mathlib.Omega.{arith}
+use mathlib.Core.Path.{_≡_, refl, sym, ap, subst, _∙_}
+use mathlib.Core.Bool.{Bool, true, false, _||_}
+use mathlib.Core.List.{List}
+use lib.ListN.{length, take, drop, getD, set, replicate}
+use lib.Seq.{getD-set-same, getD-set-other}
+use Rattle.wire.specs.Bytes.{Bytes, same, member}
+use Rattle.wire.specs.Message.{text}
+use Rattle.wire.specs.declared.Field.{Field}
+use Rattle.index.specs.Table.{newest, namesIn, seek, since, Indexed}
+use Rattle.index.specs.Memory.{known, tableOf, Remembered}
+use Rattle.index.specs.declared.Found.{Found}
+use Rattle.index.specs.Listing.{Held}
+use Rattle.index.specs.declared.listings.Listing.{Listing}
+use Rattle.index.proofs.UseLaws.{indexed-none, seek-member}
+use Rattle.index.proofs.ListingLaws.{held-all, held-fewer, held-then}
+use Rattle.messages.proofs.ListedLaws.{imported-held}
+use Rattle.rules.specs.Names.{Name, nameIn}
+use Rattle.rules.specs.Walk.{visible}
+use Rattle.scope.specs.Scope.{nameAt, scopeIn}
+use Rattle.scope.specs.Recall.{Recalls, Remembering, Recalling, RememberedOn, AddedOn, Recalled, Minded, Minds}
+use Rattle.scope.specs.declared.remembered.Index.{Index}
+use Rattle.scope.proofs.ScopeLaws.{Searching}
+
+-- what is remembered is the scope
+recalled : {model : Bytes} {seed : ℕ} {cells extra : List ℕ} → Recalls model seed cells extra → (x : Bytes) (i : ℕ) → i ≤ known extra → member x (namesIn model (tableOf extra) i) ≡ visible x (scopeIn model cells i)
+unfolding member visible namesIn scopeIn
+recalled m x zero h = refl
+recalled {model} {seed} {cells} {extra} m x (suc i) h =
+    ap (λ (y : Bytes). same x y || member x (namesIn model (tableOf extra) i)) (m .memory .same i (omega arith))
+    ∙ ap (λ (t : Bool). same x (nameAt model (getD cells i 0) .bytes) || t) (recalled m x i (omega arith))
+
+-- the search after the names that are not remembered: r is what is recalled
+pub recall-ends : {model : Bytes} {seed : ℕ} {cells extra : List ℕ} → Recalls model seed cells extra → {used : ℕ} {name : Bytes} {i : ℕ} → Searching model cells used name i → i ≤ known extra → {r : Found} → r ≡ seek name (namesIn model (tableOf extra) i) → {t : Bool} → t ≡ since 0 r → t ≡ visible name (scopeIn model cells used)
+recall-ends {model} {seed} {cells} {extra} m {used} {name} {i} q h e f =
+    f ∙ ap (since 0) e ∙ seek-member name (namesIn model (tableOf extra) i) ∙ recalled m name i h ∙ q .rest
+
+-- a name was stored and remembered, as far as the model has it
+pub recall-more : {model : Bytes} {seed : ℕ} {cells extra later : List ℕ} → Recalls model seed cells extra → (used : ℕ) → used < length cells → (f : Field) → nameAt model (f .place) ≡ nameIn model f → Remembered model seed used (text model f) extra later → Recalls model seed (set cells used (f .place)) later
+unfolding nameIn
+recall-more {model} {seed} {cells} m used h f e r = record {
+  memory = r .memory (λ i. nameAt model (getD cells i 0) .bytes) (λ i. nameAt model (getD (set cells used (f .place)) i 0) .bytes) (m .memory)
+      (λ i l. ap (λ (n : ℕ). nameAt model n .bytes) (getD-set-other cells used i (f .place) 0 (λ q. omega arith)))
+      (ap (λ (n : ℕ). nameAt model n .bytes) (getD-set-same cells used (f .place) 0 h) ∙ ap (λ (n : Name). n .bytes) e);
+}
+
+-- zeros remember nothing
+pub recalls-none : (model : Bytes) (seed : ℕ) (cells : List ℕ) (n : ℕ) → Recalls model seed cells (replicate n 0)
+unfolding known tableOf newest
+recalls-none model seed cells zero = record { memory = record { index = indexed-none model seed 0; same = λ i h. absurd (omega arith) } }
+recalls-none model seed cells (suc n) = record { memory = record { index = indexed-none model seed n; same = λ i h. absurd (omega arith) } }
+
+pub recalls-cleared : (model : Bytes) (seed : ℕ) (cells : List ℕ) {extra : List ℕ} (n : ℕ) → extra ≡ replicate n 0 → Recalls model seed cells extra
+recalls-cleared model seed cells n e = rw e (recalls-none model seed cells n)
+
+-- ---- both parts of the extra cells
+
+module _ {model : Bytes} {ix : Index} where
+  pub recalled-none : {cells extra : List ℕ} → Recalling model ix cells extra → Recalled model ix cells extra extra
+  recalled-none m = record { recalls = m; size = refl; lists = refl }
+
+  pub recalled-then : {cells later a b c : List ℕ} → Recalled model ix cells a b → Recalled model ix later b c → Recalled model ix later a c
+  recalled-then m n = record { recalls = n .recalls; size = n .size ∙ m .size; lists = n .lists ∙ m .lists }
+
+  -- a name was stored and remembered
+  pub recalled-more : {cells extra later : List ℕ} → Recalling model ix cells extra → (used : ℕ) → used < length cells → (f : Field) → nameAt model (f .place) ≡ nameIn model f → RememberedOn model ix used f extra later → Recalled model ix (set cells used (f .place)) extra later
+  recalled-more {cells} {extra} {later} m used h f e r =
+      let s = recall-more (m .scope) used h f e (r .names) in
+      record {
+        recalls = record {
+          both = record { fits = omega (arith, m .both .fits, r .size); names = s .memory .index; lists = subst (λ (l : List ℕ). Indexed model (ix .seed) (tableOf l) (known l)) (sym (r .lists)) (m .both .lists) };
+          scope = s;
+        };
+        size = r .size;
+        lists = r .lists;
+      }
+
+  -- ---- with lists
+
+  pub minded-none : {top : ℕ} {cells extra : List ℕ} → Recalling model ix cells extra → top ≤ known (drop (ix .split) extra) → Minded model ix top cells extra extra
+  minded-none m h = record { recalls = m; size = refl; held = held-all (m .both .lists) h }
+
+  pub minded-recalled : {top : ℕ} {cells before after : List ℕ} → top ≤ known (drop (ix .split) before) → Recalled model ix cells before after → Minded model ix top cells before after
+  minded-recalled {top} {cells} {before} {after} h m = record {
+    recalls = m .recalls;
+    size = m .size;
+    held = subst (λ (l : List ℕ). Held model (ix .seed) top l (drop (ix .split) after)) (m .lists) (held-all (m .recalls .both .lists) (subst (λ (l : List ℕ). top ≤ known l) (sym (m .lists)) h));
+  }
+
+  pub minded-then : {top : ℕ} {cells later a b c : List ℕ} → Minded model ix top cells a b → Minded model ix top later b c → Minded model ix top later a c
+  minded-then m n = record { recalls = n .recalls; size = n .size ∙ m .size; held = held-then (m .held) (n .held) }
+
+  pub minded-fewer : {n top : ℕ} {cells a b : List ℕ} → n ≤ top → Minded model ix top cells a b → Minded model ix n cells a b
+  minded-fewer h m = record { recalls = m .recalls; size = m .size; held = held-fewer h (m .held) }
+
+  pub minded-added : {l : Listing} {name : Bytes} {cells extra later : List ℕ} {r : Listing} → Recalling model ix cells extra → AddedOn model ix l name extra later r → Minded model ix (l .top) cells extra later
+  minded-added {l} {name} {cells} {extra} {later} m a = record {
+    recalls = record {
+      both = record { fits = omega (arith, m .both .fits, a .size); names = subst (λ (x : List ℕ). Indexed model (ix .seed) (tableOf x) (known x)) (sym (a .names)) (m .both .names); lists = a .lists .held .index };
+      scope = subst (λ (x : List ℕ). Recalls model (ix .seed) cells x) (sym (a .names)) (m .scope);
+    };
+    size = a .size;
+    held = a .lists .held;
+  }
+
+  -- what a graph goes by stays, as long as the names below its lists do
+  pub minds-still : {top : ℕ} {cells later before after : List ℕ} → Minds model ix top cells before → Minded model ix top later before after → Minds model ix top later after
+  minds-still m n = record {
+    recalls = n .recalls;
+    imported = imported-held (held-fewer (m .above) (n .held)) (m .imported);
+    above = m .above;
+    fits = n .held .fits;
+  }
+
+  pub minds-higher : {top more : ℕ} {cells extra : List ℕ} → Minds model ix top cells extra → top ≤ more → more ≤ known (drop (ix .split) extra) → Minds model ix more cells extra
+  minds-higher m h k = record { recalls = m .recalls; imported = m .imported; above = (let a = m .above in omega arith); fits = k }
+
+-- the name in a field, as the cells have it
+pub text-there : (model : Bytes) (f : Field) → nameAt model (f .place) ≡ nameIn model f → {x : Bytes} → x ≡ text model f → x ≡ nameAt model (f .place) .bytes
+unfolding nameIn
+text-there model f e t = t ∙ sym (ap (λ (n : Name). n .bytes) e)

@@ -1,0 +1,67 @@
+use Rattle.scope.proofs.RecallLaws.{recalled-none, recalled-then}
+use Prim.Native.Nat.{_-_}
+use native.Mathlib.Nat.{le-trans}
+use mathlib.Core.Path.{_≡_, refl, _∙_}
+use lib.ListN.{length}
+use Rattle.wire.specs.Outcome.{each}
+use Rattle.wire.proofs.Along.{allFrom, along-start, along-contents, contents-inside}
+use Rattle.schema.specs.Numbers.{Graph·input}
+use Rattle.rules.specs.Verdict.{fills}
+use Rattle.rules.specs.Graph.{input}
+use Rattle.scope.specs.Scope.{walkIn}
+use Rattle.scope.specs.Recall.{Recalled}
+use Rattle.scope.proofs.InputLaws.{plain, inputs-any}
+use Rattle.scope.proofs.StepLaws.{Adding, adding-start, adding-done, adding-falls, adding-inside, adding-stops, adding-goes}
+use borrow.Author.Needs.{needs}
+use Rattle.scope.proofs.inputs.inputs.Statement.{statement}
+use Rattle.scope.proofs.inputs.inputs.Tie as tie
+
+abbrev Inv-loop : tie.InvT-loop
+Inv-loop model cells₀ extra₀ ix main c₀ q₀ cells extra c q = Adding model Graph·input (c₀ .end) (λ n. input model (fills n) (plain main)) (each (input model (fills (length cells₀)) (plain main)) (walkIn model cells₀ q₀) (allFrom model Graph·input (c₀ .end) (c₀ .at))) cells₀ q₀ cells q c × Recalled model ix cells extra₀ extra
+
+abbrev μ-loop : tie.MeasureT-loop
+μ-loop model cells₀ extra₀ ix main c₀ q₀ cells extra c q = c₀ .end - c .at
+
+loop-holds : tie.Need-loop-holds Inv-loop μ-loop
+loop-holds c = (adding-start _ _ _ _ _ _ (along-start _ _ _ _ _), recalled-none (c .before .before .before .before .pre .1 .1))
+
+same-length-2 : tie.Need-same-length-2 Inv-loop μ-loop
+same-length-2 c = c .before .before .before .loop .inv .1 .size
+
+returns : tie.Need-returns Inv-loop μ-loop
+returns c = let d = adding-done (c .before .before .before .loop .inv .0) (c .before .before .next-of .ensures) (c .enum-told .given .1) in (λ k e. d .0 ∙ along-contents _ _ _ _ _ (c .before .before .before .before .contents .ensures) ∙ inputs-any _ _ _ k e _ _, (d .1 .0, (d .1 .1, c .before .before .before .loop .inv .1)))
+
+input-requires : tie.Need-input-requires Inv-loop μ-loop
+input-requires c κs = (c .before .before .before .before .before .before .before .before .before .before .before .pre .0, (le-trans (adding-inside (c .before .before .before .before .before .before .loop .inv .0) (c .before .before .before .before .before .next-of .ensures) (c .before .before .before .sought .given .1)) (contents-inside _ _ (c .before .before .before .before .before .before .before .contents .ensures) (c .before .before .before .before .before .before .before .before .before .before .before .pre .1 .0)), c .before .before .before .before .before .before .loop .inv .1 .recalls))
+
+returns-2 : tie.Need-returns-2 Inv-loop μ-loop
+returns-2 c = let d = adding-stops (c .before .before .before .before .before .before .before .before .before .before .before .before .before .loop .inv .0) (c .before .before .before .before .before .before .before .before .before .before .before .before .next-of .ensures) (c .before .before .before .before .before .before .before .before .before .before .sought .given .1) _ (c .before .before .before .before .before .before .input .ensures .0 _ refl) (c .before .before .before .before .before .before .input .ensures .1 .0) (c .before .before .before .before .before .before .input .ensures .1 .1 .0) (c .enum-told2 .given .1) in (λ k e. d .0 ∙ along-contents _ _ _ _ _ (c .before .before .before .before .before .before .before .before .before .before .before .before .before .before .contents .ensures) ∙ inputs-any _ _ _ k e _ _, (d .1 .0, (d .1 .1, recalled-then (c .before .before .before .before .before .before .before .before .before .before .before .before .before .loop .inv .1) (c .before .before .before .before .before .before .input .ensures .1 .1 .1))))
+
+loop-less : tie.Need-loop-less Inv-loop μ-loop
+loop-less c = adding-falls (c .before .before .before .before .before .before .before .before .before .before .before .before .before .before .loop .inv .0) (c .before .before .before .before .before .before .before .before .before .before .before .before .before .next-of .ensures) (c .before .before .before .before .before .before .before .before .before .before .before .sought .given .1)
+
+loop-again : tie.Need-loop-again Inv-loop μ-loop
+loop-again c = (adding-goes (c .before .before .before .before .before .before .before .before .before .before .before .before .before .before .loop .inv .0) (c .before .before .before .before .before .before .before .before .before .before .before .before .before .next-of .ensures) (c .before .before .before .before .before .before .before .before .before .before .before .sought .given .1) _ (c .before .before .before .before .before .before .before .input .ensures .0 _ refl) (c .before .before .before .before .before .before .before .input .ensures .1 .0) (c .before .before .before .before .before .before .before .input .ensures .1 .1 .0) (c .before .step .given .1), recalled-then (c .before .before .before .before .before .before .before .before .before .before .before .before .before .before .loop .inv .1) (c .before .before .before .before .before .before .before .input .ensures .1 .1 .1))
+
+pub inputs-spec : {M : Type 1} → statement M
+inputs-spec =
+    tie.close
+    (tie.spec
+    Inv-loop
+    μ-loop
+    (λ c κs. search needs)
+    loop-holds
+    (λ c κs. search needs)
+    (λ c. search needs)
+    (λ c. search needs)
+    (λ c. search needs)
+    same-length-2
+    returns
+    input-requires
+    (λ c. search needs)
+    (λ c. search needs)
+    (λ c. search needs)
+    (λ c. search needs)
+    returns-2
+    loop-less
+    loop-again)

@@ -1,0 +1,65 @@
+use Rattle.scope.proofs.RecallLaws.{recalled-none, recalled-then}
+use Prim.Native.Nat.{_-_}
+use mathlib.Core.Path.{_≡_, refl, _∙_}
+use lib.ListN.{length}
+use Rattle.wire.specs.Outcome.{each}
+use Rattle.wire.proofs.Along.{allFrom, along-start, along-contents, contents-inside}
+use Rattle.schema.specs.Numbers.{Node·output}
+use Rattle.rules.specs.Verdict.{fills}
+use Rattle.rules.specs.Node.{nodeOutput}
+use Rattle.scope.specs.Scope.{walkIn}
+use Rattle.scope.specs.Recall.{Recalled}
+use Rattle.scope.proofs.StepLaws.{Adding, adding-start, adding-done, adding-falls, adding-placed, adding-named, adding-stops, adding-goes}
+use borrow.Author.Needs.{needs}
+use Rattle.scope.proofs.outputs.node_outputs.Statement.{statement}
+use Rattle.scope.proofs.outputs.node_outputs.Tie as tie
+
+abbrev Inv-loop : tie.InvT-loop
+Inv-loop model cells₀ extra₀ ix c₀ q₀ cells extra c q = Adding model Node·output (c₀ .end) (λ n. nodeOutput model (fills n)) (each (nodeOutput model (fills (length cells₀))) (walkIn model cells₀ q₀) (allFrom model Node·output (c₀ .end) (c₀ .at))) cells₀ q₀ cells q c × Recalled model ix cells extra₀ extra
+
+abbrev μ-loop : tie.MeasureT-loop
+μ-loop model cells₀ extra₀ ix c₀ q₀ cells extra c q = c₀ .end - c .at
+
+loop-holds : tie.Need-loop-holds Inv-loop μ-loop
+loop-holds c = (adding-start _ _ _ _ _ _ (along-start _ _ _ _ _), recalled-none (c .before .before .before .before .pre .1 .1))
+
+same-length-2 : tie.Need-same-length-2 Inv-loop μ-loop
+same-length-2 c = c .before .before .before .loop .inv .1 .size
+
+returns : tie.Need-returns Inv-loop μ-loop
+returns c = let d = adding-done (c .before .before .before .loop .inv .0) (c .before .before .next-of .ensures) (c .enum-told .given .1) in (d .0 ∙ along-contents _ _ _ _ _ (c .before .before .before .before .contents .ensures), (d .1 .0, (d .1 .1, c .before .before .before .loop .inv .1)))
+
+node-output-requires : tie.Need-node-output-requires Inv-loop μ-loop
+node-output-requires c κs = (adding-placed (c .before .before .before .before .before .before .loop .inv .0) (c .before .before .before .before .before .next-of .ensures) (c .before .before .before .sought .given .1) _ (c .before .before .before .before .before .before .before .before .before .before .before .pre .0) (contents-inside _ _ (c .before .before .before .before .before .before .before .contents .ensures) (c .before .before .before .before .before .before .before .before .before .before .before .pre .1 .0)), (adding-named (c .before .before .before .before .before .before .loop .inv .0) (c .before .before .before .before .before .next-of .ensures) (c .before .before .before .sought .given .1) (contents-inside _ _ (c .before .before .before .before .before .before .before .contents .ensures) (c .before .before .before .before .before .before .before .before .before .before .before .pre .1 .0)), (c .before .before .before .before .before .before .before .before .before .before .before .pre .0, c .before .before .before .before .before .before .loop .inv .1 .recalls)))
+
+returns-2 : tie.Need-returns-2 Inv-loop μ-loop
+returns-2 c = let d = adding-stops (c .before .before .before .before .before .before .before .before .before .before .before .before .before .loop .inv .0) (c .before .before .before .before .before .before .before .before .before .before .before .before .next-of .ensures) (c .before .before .before .before .before .before .before .before .before .before .sought .given .1) _ (c .before .before .before .before .before .before .node-output .ensures .0) (c .before .before .before .before .before .before .node-output .ensures .1 .0) (c .before .before .before .before .before .before .node-output .ensures .1 .1 .0) (c .enum-told2 .given .1) in (d .0 ∙ along-contents _ _ _ _ _ (c .before .before .before .before .before .before .before .before .before .before .before .before .before .before .contents .ensures), (d .1 .0, (d .1 .1, recalled-then (c .before .before .before .before .before .before .before .before .before .before .before .before .before .loop .inv .1) (c .before .before .before .before .before .before .node-output .ensures .1 .1 .1))))
+
+loop-less : tie.Need-loop-less Inv-loop μ-loop
+loop-less c = adding-falls (c .before .before .before .before .before .before .before .before .before .before .before .before .before .before .loop .inv .0) (c .before .before .before .before .before .before .before .before .before .before .before .before .before .next-of .ensures) (c .before .before .before .before .before .before .before .before .before .before .before .sought .given .1)
+
+loop-again : tie.Need-loop-again Inv-loop μ-loop
+loop-again c = (adding-goes (c .before .before .before .before .before .before .before .before .before .before .before .before .before .before .loop .inv .0) (c .before .before .before .before .before .before .before .before .before .before .before .before .before .next-of .ensures) (c .before .before .before .before .before .before .before .before .before .before .before .sought .given .1) _ (c .before .before .before .before .before .before .before .node-output .ensures .0) (c .before .before .before .before .before .before .before .node-output .ensures .1 .0) (c .before .before .before .before .before .before .before .node-output .ensures .1 .1 .0) (c .before .step .given .1), recalled-then (c .before .before .before .before .before .before .before .before .before .before .before .before .before .before .loop .inv .1) (c .before .before .before .before .before .before .before .node-output .ensures .1 .1 .1))
+
+pub node-outputs-spec : {M : Type 1} → statement M
+node-outputs-spec =
+    tie.close
+    (tie.spec
+    Inv-loop
+    μ-loop
+    (λ c κs. search needs)
+    loop-holds
+    (λ c κs. search needs)
+    (λ c. search needs)
+    (λ c. search needs)
+    (λ c. search needs)
+    same-length-2
+    returns
+    node-output-requires
+    (λ c. search needs)
+    (λ c. search needs)
+    (λ c. search needs)
+    (λ c. search needs)
+    returns-2
+    loop-less
+    loop-again)

@@ -1,0 +1,19 @@
+use mathlib.Core.Path.{sym}
+use lib.Seq.{length-take-le}
+use borrow.Author.Needs.{needs}
+use Rattle.scope.proofs.remembered.sees.Statement.{statement}
+use Rattle.scope.proofs.remembered.sees.Tie as tie
+
+slice-aggregate-sees-in : tie.Need-slice-aggregate-sees-in
+slice-aggregate-sees-in c = sym (length-take-le _ _ (c .before .before .before .before .before .pre .both .fits))
+
+sees-in-requires : tie.Need-sees-in-requires
+sees-in-requires c κs = c .before .before .before .before .before .pre .scope
+
+pub sees-spec : {M : Type 1} → statement M
+sees-spec =
+    tie.close
+    (tie.spec
+    slice-aggregate-sees-in
+    sees-in-requires
+    (λ c. search needs))

@@ -1,0 +1,3 @@
+pub mod Scope
+pub mod Recall
+pub mod Again

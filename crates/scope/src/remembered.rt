@@ -1,0 +1,137 @@
+// The scope in lent cells, with extra cells to find names by. The first of them remember names of the scope, the others hold lists of names.
+// What is not remembered is read again, so any number of extra cells will do, and with none these are the plain searches.
+ghost use mathlib.Core.Path.{_≡_};
+ghost use Prim.Native.Nat.{_^_, _<_, _≤_};
+ghost use lib.ListN.{length, drop};
+ghost use Rattle.wire.specs.Message.{bytesOf, message};
+ghost use Rattle.rules.specs.Names.{nameIn};
+ghost use Rattle.rules.specs.Verdict.{fills};
+ghost use Rattle.rules.specs.Walk.{visible, define};
+ghost use Rattle.index.specs.Memory.{known};
+ghost use Rattle.scope.specs.Scope.{nameAt, scopeIn, walkIn, stepSays, grows, Keeps};
+ghost use Rattle.scope.specs.Recall.{Recalls, Recalling, Recalled, Remembering, RememberedOn, AddedOn};
+use crate::scopes::Progress;
+use crate::scopes::Step;
+use crate::scopes::cell_at;
+use crate::scopes::larger;
+use crate::scopes::name_at;
+use crate::scopes::stopped;
+use index::Listing;
+use index::known;
+use index::recall;
+use index::remember_name;
+use messages::Imports;
+use messages::Ruling;
+use messages::list_name;
+use wire::Field;
+use wire::same_bytes;
+
+// How the extra cells are used: the caller's seed, how many of them are for the scope, and what the rest holds of the imports.
+pub struct Index {
+    pub seed: u64,
+    pub split: usize,
+    pub imports: Imports,
+}
+
+// Is the name among those that the first `used` cells hold, of which `names` remembers some?
+fn sees_in(
+    model: &[u8],
+    cells: &[u32],
+    names: &[u32],
+    seed: u64,
+    used: usize,
+    name: &[u8],
+) -> bool
+    requires { ⌜ Recalls (now model) seed (now cells) (now names) ⌝ }
+    ensures { λ r. ⌜ r ≡ visible (now (name .entry)) (scopeIn (now (model .entry)) (now (cells .entry)) used) ⌝ }
+{
+    let kept = known(names);
+    let mut i = used;
+    while kept < i {
+        i -= 1;
+        if same_bytes(name, name_at(model, cell_at(cells, i))) {
+            return true;
+        }
+    }
+    recall(model, names, seed, i, name).since(0)
+}
+
+// Is the name among those that the first `used` cells hold?
+pub(crate) fn sees(
+    model: &[u8],
+    cells: &[u32],
+    extra: &[u32],
+    ix: Index,
+    used: usize,
+    name: &[u8],
+) -> bool
+    requires { ⌜ Recalling (now model) ix (now cells) (now extra) ⌝ }
+    ensures { λ r. ⌜ r ≡ visible (now (name .entry)) (scopeIn (now (model .entry)) (now (cells .entry)) used) ⌝ }
+{
+    let split = ix.split;
+    sees_in(model, cells, &extra[..split], ix.seed, used, name)
+}
+
+// The name in a field is that of the cell at `place`.
+fn remember(model: &[u8], extra: &mut [u32], ix: Index, place: usize, name: Field)
+    requires { ⌜ Remembering (now model) ix (now extra) ⌝ }
+    requires { ⌜ length (now model) < 2 ^ 32 ⌝ }
+    ensures { λ _. ⌜ RememberedOn (now (model .entry)) ix place name (now (extra .entry)) (now (extra .exit)) ⌝ }
+{
+    let split = ix.split;
+    remember_name(model, &mut extra[..split], ix.seed, place, name);
+}
+
+// A list with the name of one message more.
+pub fn list(
+    model: &[u8],
+    extra: &mut [u32],
+    ix: Index,
+    l: Listing,
+    m: Field,
+    number: u64,
+) -> Listing
+    requires { ⌜ Remembering (now model) ix (now extra) ⌝ }
+    requires { ⌜ l .top ≤ known (drop (ix .split) (now extra)) ⌝ }
+    requires { ⌜ length (now model) < 2 ^ 32 ⌝ }
+    ensures { λ r. ⌜ AddedOn (now (model .entry)) ix l (bytesOf (now (model .entry)) number (message (now (model .entry)) m)) (now (extra .entry)) (now (extra .exit)) r ⌝ }
+{
+    let split = ix.split;
+    list_name(model, &mut extra[split..], ix.seed, l, m, number)
+}
+
+// A new name, that in the field `name`: 23, 40, "and is visible from then on".
+pub(crate) fn define(
+    model: &[u8],
+    cells: &mut [u32],
+    extra: &mut [u32],
+    ix: Index,
+    p: Progress,
+    name: Field,
+) -> Step
+    requires { ⌜ name .place < 2 ^ 32 ⌝ }
+    requires { ⌜ nameAt (now model) (name .place) ≡ nameIn (now model) name ⌝ }
+    requires { ⌜ length (now model) < 2 ^ 32 ⌝ }
+    requires { ⌜ Recalling (now model) ix (now cells) (now extra) ⌝ }
+    ensures answer { λ r. ⌜ stepSays (now (model .entry)) (now (cells .exit)) r ≡ define (fills (length (now (cells .entry)))) (walkIn (now (model .entry)) (now (cells .entry)) p) (nameAt (now (model .entry)) (name .place)) ⌝ }
+    ensures grown { λ r. ⌜ grows p r ⌝ }
+    ensures kept { λ _. ⌜ Keeps (p .used) (now (cells .entry)) (now (cells .exit)) ⌝ }
+    ensures memory { λ _. ⌜ Recalled (now (model .entry)) ix (now (cells .exit)) (now (extra .entry)) (now (extra .exit)) ⌝ }
+{
+    let used = p.used;
+    let place = name.place;
+    if sees(model, cells, extra, ix, used, name.text(model)) {
+        return stopped(Ruling::ALREADY_VISIBLE, place);
+    }
+    if cells.len() <= used {
+        return stopped(Ruling::CELLS_FULL, place);
+    }
+    cells[used] = place as u32;
+    remember(model, extra, ix, used, name);
+    let more = used + 1;
+    Step::Went(Progress {
+        used: more,
+        nodes: p.nodes,
+        most: larger(p.most, more),
+    })
+}

@@ -1,0 +1,102 @@
+// The scope of the second walk, in cells that the caller lends: a cell holds the place of the field that holds a name, and the
+// first `used` cells are in use. What they mean stands in specs/Scope.antt.
+ghost use mathlib.Core.Path.{_≡_};
+ghost use Prim.Native.Nat.{ℕ, max};
+ghost use mathlib.Core.List.{List};
+ghost use lib.ListN.{length, getD, replicate};
+ghost use Rattle.wire.specs.Outcome.{refused};
+ghost use Rattle.wire.specs.Bytes.{Bytes};
+ghost use Rattle.scope.specs.Scope.{nameAt, stepSays, standing, left, grows};
+ghost use Rattle.scope.specs.declared.scopes.Progress.{Progress};
+use messages::Ruling;
+use wire::Cursor;
+use wire::FieldAnswer;
+use wire::Refusal;
+use wire::between;
+
+// How far the second walk has come: how many cells are used, the nodes so far, and the most names visible together so far.
+pub struct Progress {
+    pub used: usize,
+    pub nodes: u64,
+    pub most: usize,
+}
+
+// How far it comes with one rule more, or why that is broken.
+pub enum Step {
+    Went(Progress),
+    Refused(Refusal),
+}
+
+// The contents of the field at a place, read where it stands; none where there is no field.
+pub(crate) fn name_at(model: &[u8], place: usize) -> &[u8]
+    ensures { λ r. ⌜ now r ≡ nameAt (now (model .entry)) place .bytes ⌝ }
+{
+    let here = Cursor {
+        at: place,
+        end: model.len(),
+    };
+    let FieldAnswer::Read(field, _) = here.field(model) else {
+        return between(model, 0, 0);
+    };
+    field.text(model)
+}
+
+pub(crate) fn cell_at(cells: &[u32], i: usize) -> usize
+    ensures { λ r. ⌜ r ≡ getD (now (cells .entry)) i 0 ⌝ }
+{
+    if i < cells.len() {
+        return cells[i] as usize;
+    }
+    0
+}
+
+// The caller's cells may hold anything at first.
+pub fn clear(cells: &mut [u32])
+    ensures { λ _. ⌜ now (cells .exit) ≡ replicate (length (now (cells .entry))) 0 ⌝ }
+{
+    let mut i = 0;
+    while i < cells.len() {
+        cells[i] = 0;
+        i += 1;
+    }
+}
+
+pub(crate) fn larger(a: usize, b: usize) -> usize
+    ensures { λ r. ⌜ r ≡ max a b ⌝ }
+{
+    if a < b {
+        return b;
+    }
+    a
+}
+
+pub fn stopped(number: u8, place: usize) -> Step
+    ensures answer { λ r. ⌜ ((model : Bytes) (cells : List ℕ) → stepSays model cells r ≡ refused number place) ⌝ }
+    ensures grown { λ r. ⌜ ((p : Progress) → grows p r) ⌝ }
+{
+    Step::Refused(Refusal {
+        number: number,
+        place: place,
+    })
+}
+
+// A rule that adds no name.
+pub fn standing(p: Progress, ruling: Ruling) -> Step
+    ensures { λ r. ⌜ r ≡ standing p ruling ⌝ }
+{
+    match ruling {
+        Ruling::Kept => Step::Went(p),
+        Ruling::Refused(r) => Step::Refused(r),
+    }
+}
+
+// "Their names vanish when the graph ends": the walk after a nested graph, where it was `before`.
+pub fn leaving(before: Progress, after: Progress) -> Progress
+    ensures { λ r. ⌜ r ≡ left before after ⌝ }
+{
+    Progress {
+        used: before.used,
+        nodes: after.nodes,
+        most: after.most,
+    }
+}
