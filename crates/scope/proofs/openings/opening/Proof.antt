@@ -14,7 +14,7 @@ returns-2 : tie.Need-returns-2
 returns-2 c = let d = opening-stops _ _ _ _ _ (c .before .before .before .before .before .before .before .before .before .before .before .graph-rules .ensures) (c .before .before .before .before .before .before .before .before .before .enum-told .given .1) _ _ (c .before .before .before .before .before .before .inputs .ensures .0) (c .before .before .before .before .before .before .inputs .ensures .1 .0) (c .before .before .before .before .before .before .inputs .ensures .1 .1 .0) (c .enum-told3 .given .1) in (d .0, (d .1 .0, (d .1 .1, minded-recalled (c .before .before .before .before .before .before .before .before .before .before .before .before .before .before .before .pre .1 .1 .1 .0) (c .before .before .before .before .before .before .inputs .ensures .1 .1 .1))))
 
 initializers-requires : tie.Need-initializers-requires
-initializers-requires c κs = (c .before .before .before .before .before .before .before .before .before .before .before .before .before .before .before .before .before .before .pre .0, (c .before .before .before .before .before .before .before .before .before .before .before .before .before .before .before .before .before .before .pre .1 .0, (c .before .before .before .before .before .before .before .before .before .inputs .ensures .1 .1 .1 .recalls, (inputs-defaultable _ _ _ _ _ _ _ (c .before .before .before .before .before .before .before .before .before .inputs .ensures .0) (c .before .before .before .step .given .1) (c .before .before .before .before .before .before .before .before .before .before .before .before .before .before .before .before .before .before .pre .1 .1 .1 .1), minded-recalled (c .before .before .before .before .before .before .before .before .before .before .before .before .before .before .before .before .before .before .pre .1 .1 .1 .0) (c .before .before .before .before .before .before .before .before .before .inputs .ensures .1 .1 .1) .held .fits))))
+initializers-requires c κs = (c .before .before .before .before .before .before .before .before .before .before .before .before .before .before .before .before .before .before .pre .0, (c .before .before .before .before .before .before .before .before .before .before .before .before .before .before .before .before .before .before .pre .1 .0, (c .before .before .before .before .before .before .before .before .before .inputs .ensures .1 .1 .1 .recalls, (inputs-defaultable _ (c .before .before .before .before .before .before .before .before .before .before .before .before .before .before .before .before .before .before .args .cells .now) _ (c .before .before .before .before .before .before .before .before .before .before .before .before .before .before .before .before .before .before .args .p) _ _ _ (c .before .before .before .before .before .before .before .before .before .inputs .ensures .0) (c .before .before .before .step .given .1) (c .before .before .before .before .before .before .before .before .before .before .before .before .before .before .before .before .before .before .pre .1 .1 .1 .1), minded-recalled (c .before .before .before .before .before .before .before .before .before .before .before .before .before .before .before .before .before .before .pre .1 .1 .1 .0) (c .before .before .before .before .before .before .before .before .before .inputs .ensures .1 .1 .1) .held .fits))))
 
 returns-3 : tie.Need-returns-3
 returns-3 c = let d = opening-goes _ _ _ _ _ (c .before .before .before .before .before .before .before .before .before .before .before .before .before .before .before .before .before .before .before .graph-rules .ensures) (c .before .before .before .before .before .before .before .before .before .before .before .before .before .before .before .before .before .enum-told .given .1) _ _ (c .before .before .before .before .before .before .before .before .before .before .before .before .before .before .inputs .ensures .0) (c .before .before .before .before .before .before .before .before .before .before .before .before .before .before .inputs .ensures .1 .0) (c .before .before .before .before .before .before .before .before .before .before .before .before .before .before .inputs .ensures .1 .1 .0) (c .before .before .before .before .before .before .before .before .step .given .1) _ _ (c .before .before .before .before .initializers .ensures .0) (c .before .before .before .before .initializers .ensures .1 .0) (c .before .before .before .before .initializers .ensures .1 .1 .0) in (d .0, (d .1 .0, (d .1 .1, minded-then (minded-recalled (c .before .before .before .before .before .before .before .before .before .before .before .before .before .before .before .before .before .before .before .before .before .before .before .pre .1 .1 .1 .0) (c .before .before .before .before .before .before .before .before .before .before .before .before .before .before .inputs .ensures .1 .1 .1)) (c .before .before .before .before .initializers .ensures .1 .1 .1))))
