@@ -52,6 +52,16 @@ pub(crate) fn headed(imports: Imports, ruling: Ruling) -> Heading
     }
 }
 
+// The ruling on the header alone.
+pub fn ruling_of(h: Heading) -> Ruling
+    ensures { λ r. ⌜ r ≡ rulingOf h ⌝ }
+{
+    match h {
+        Heading::Imported(_) => Ruling::Kept,
+        Heading::Refused(r) => Ruling::Refused(r),
+    }
+}
+
 // Is the domain that of an import before this place? The imports are read again.
 fn is_imported_before(model: &[u8], place: usize, d: &[u8]) -> bool
     ensures { λ r. ⌜ r ≡ member (domain (now (d .entry))) (importsBefore (now (model .entry)) place) ⌝ }
@@ -96,13 +106,7 @@ pub(crate) fn is_imported(
 }
 
 // The imports with one more.
-fn list_import(
-    model: &[u8],
-    lists: &mut [u32],
-    seed: u64,
-    imports: Imports,
-    f: Field,
-) -> Imports
+fn list_import(model: &[u8], lists: &mut [u32], seed: u64, imports: Imports, f: Field) -> Imports
     requires { ⌜ Indexed (now model) seed (tableOf (now lists)) (known (now lists)) ⌝ }
     requires { ⌜ imports .listing .top ≤ known (now lists) ⌝ }
     requires { ⌜ length (now model) < 2 ^ 32 ⌝ }

@@ -20,6 +20,7 @@ pub use earlier::list_name;
 pub use headers::header;
 pub use imports::Heading;
 pub use imports::Imports;
+pub use imports::ruling_of;
 pub use names::Naming;
 pub use names::misnaming;
 pub use names::read_name;

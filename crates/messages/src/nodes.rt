@@ -50,7 +50,15 @@ fn node_name(
         return refused(Ruling::NOT_IDENTIFIER, name.place);
     }
     if is_listed(
-        model, lists, seed, l, graph, GRAPH_NODE, NODE_NAME, node.place, text,
+        model,
+        lists,
+        seed,
+        l,
+        graph,
+        GRAPH_NODE,
+        NODE_NAME,
+        node.place,
+        text,
     ) {
         return refused(Ruling::NODE_NAME_TWICE, name.place);
     }
@@ -76,7 +84,14 @@ pub fn node_head(
         return misnaming(naming);
     };
     let end = model.len();
-    if !is_imported(model, lists, seed, imports, end, f.bytes_of(model, NODE_DOMAIN)) {
+    if !is_imported(
+        model,
+        lists,
+        seed,
+        imports,
+        end,
+        f.bytes_of(model, NODE_DOMAIN),
+    ) {
         return refused(Ruling::NOT_IMPORTED, f.place_of(model, NODE_DOMAIN));
     }
     node_name(model, lists, seed, l, graph, f)

@@ -18,9 +18,9 @@ use Rattle.index.specs.Listing.{Listed}
 use Rattle.index.specs.declared.listings.Listing.{Listing}
 use Rattle.index.proofs.ListingLaws.{listed-begin}
 use Rattle.messages.specs.Earlier.{earlierIn}
-use Rattle.scope.specs.Recall.{Recalling, AddedOn, Minded}
+use Rattle.scope.specs.Recall.{Recalling, AddedOn, Minded, Minds}
 use Rattle.scope.specs.declared.remembered.Index.{Index}
-use Rattle.scope.proofs.RecallLaws.{minded-none, minded-then, minded-fewer, minded-added}
+use Rattle.scope.proofs.RecallLaws.{minded-none, minded-then, minded-fewer, minded-added, minds-still}
 use Rattle.scope.proofs.BehindLaws.{Behind, behind-start, behind-held, behind-found, behind-next}
 
 pub record Lists (model : Bytes) (ix : Index) (top number name : ℕ) (m : Field) (first cells extra : List ℕ) (l : Listing) (c : Cursor) : Type 0 where
@@ -46,3 +46,6 @@ module _ {model : Bytes} {ix : Index} {top number name : ℕ} {m : Field} {first
       behind = behind-next (behind-held (q .behind) (n .held)) read e (x .lists);
       above = (let a = q .above in let b = x .lists .rises in omega arith);
     }
+
+    pub lists-minds : {later mid last : List ℕ} {r : Listing} → Minds model ix top cells extra → Minded model ix (l .top) later extra mid → AddedOn model ix l (bytesOf model name (message model f)) mid last r → Minds model ix top later last
+    lists-minds g n x = minds-still g (minded-fewer (q .above) (minded-then n (minded-added (n .recalls) x)))

@@ -20,13 +20,13 @@ pub others-lent : (split : ℕ) (extra : List ℕ) → take (length extra - spli
 others-lent split extra = take-all (length extra - split) (drop split extra) (omega (arith, length-drop split extra))
 
 -- a list in two parts, the first of this length
-take-first : {n : ℕ} (a b : List ℕ) → length a ≡ n → take n (a ++ b) ≡ a
+pub take-first : {n : ℕ} (a b : List ℕ) → length a ≡ n → take n (a ++ b) ≡ a
 take-first a b e = ap (λ (k : ℕ). take k (a ++ b)) (sym e) ∙ take-append-seam a b
 
-drop-first : {n : ℕ} (a b : List ℕ) → length a ≡ n → drop n (a ++ b) ≡ b
+pub drop-first : {n : ℕ} (a b : List ℕ) → length a ≡ n → drop n (a ++ b) ≡ b
 drop-first a b e = ap (λ (k : ℕ). drop k (a ++ b)) (sym e) ∙ drop-append-seam a b
 
-put-others : (split : ℕ) (extra new : List ℕ) → putMid split (length extra - split) extra new ≡ take split extra ++ new
+pub put-others : (split : ℕ) (extra new : List ℕ) → putMid split (length extra - split) extra new ≡ take split extra ++ new
 put-others split extra new = ap (λ (l : List ℕ). take split extra ++ l) (ap (λ (l : List ℕ). new ++ l) (drop-of-length-le (drop split extra) {i = length extra - split} (omega (arith, length-drop split extra))) ∙ append-nil new)
 
 module _ {model : Bytes} (ix : Index) {extra : List ℕ} (h : ix .split ≤ length extra) where

@@ -162,9 +162,7 @@ fn initializer(
     match read_name(model, f, TENSOR_NAME, Ruling::NAME_EMPTY) {
         Naming::Refused(r) => Step::Refused(r),
         Naming::Named(name) => {
-            let step = default_or_new(
-                model, cells, extra, ix, l, main, inputs, p, graph, f, name,
-            );
+            let step = default_or_new(model, cells, extra, ix, l, main, inputs, p, graph, f, name);
             let Step::Went(q) = step else {
                 return step;
             };

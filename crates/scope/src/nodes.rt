@@ -85,14 +85,7 @@ fn node_inputs(
 }
 
 // "op_type (27, 21); 28; a nonempty node name (21, 29)", with what the extra cells hold of imports and names.
-fn head(
-    model: &[u8],
-    extra: &[u32],
-    ix: Index,
-    l: Listing,
-    graph: Field,
-    f: Field,
-) -> Ruling
+fn head(model: &[u8], extra: &[u32], ix: Index, l: Listing, graph: Field, f: Field) -> Ruling
     requires { ⌜ ix .split ≤ length (now extra) ⌝ }
     requires { ⌜ Imported (now model) (ix .seed) (drop (ix .split) (now extra)) (ix .imports) (importsIn (now model)) ⌝ }
     requires { ⌜ Listed (now model) (ix .seed) (drop (ix .split) (now extra)) l (earlierIn (now model) Graph·node Node·name graph f) ⌝ }

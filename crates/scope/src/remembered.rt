@@ -34,14 +34,7 @@ pub struct Index {
 }
 
 // Is the name among those that the first `used` cells hold, of which `names` remembers some?
-fn sees_in(
-    model: &[u8],
-    cells: &[u32],
-    names: &[u32],
-    seed: u64,
-    used: usize,
-    name: &[u8],
-) -> bool
+fn sees_in(model: &[u8], cells: &[u32], names: &[u32], seed: u64, used: usize, name: &[u8]) -> bool
     requires { ⌜ Recalls (now model) seed (now cells) (now names) ⌝ }
     ensures { λ r. ⌜ r ≡ visible (now (name .entry)) (scopeIn (now (model .entry)) (now (cells .entry)) used) ⌝ }
 {
