@@ -1,0 +1,126 @@
+//! The check with cells of its own: how many, and under a seed that nobody knows.
+use crate::skim::{skim, Need};
+use crate::{check_indexed, check_with, Accepted, Refusal, LARGEST_MODEL};
+use std::hash::{BuildHasher, Hasher, RandomState};
+
+/// The most bytes that cells and extra cells take together, where nobody says otherwise. No model of up to `LARGEST_MODEL`
+/// bytes needs as many, so that no model is refused for it.
+pub const MEMORY: usize = 1 << 30;
+
+const CELL: usize = size_of::<u32>();
+
+/// A field that holds a visible name has at least a tag, a length and a byte.
+const LEAST_NAME: usize = 3;
+
+/// An import, initializer, named node or attribute that is not refused before its name is kept has at least seven bytes.
+const LEAST_ENTRY: usize = 7;
+
+/// Up to this size a model gets what any model of its size can need; a larger one is skimmed.
+const SMALL: usize = 4096 * LEAST_ENTRY;
+
+/// The most cells of a first try: a file that only claims to have more names is refused before it costs more.
+const FIRST: usize = 65_536;
+
+/// What cells are multiplied with after a 40. The tries before the last then have little more cells than it has, all together.
+const GROWTH: usize = 8;
+
+const _: () = assert!(CELL * (5 * (LARGEST_MODEL / LEAST_NAME) + 2 + 4 * (LARGEST_MODEL / LEAST_ENTRY)) < MEMORY);
+
+/// What bounds a check, and its seed.
+#[derive(Clone, Copy, Debug, PartialEq, Eq)]
+pub struct Options {
+    /// The most names that may be visible at once. A model with more is refused with 40.
+    pub cells: usize,
+    /// The most bytes of cells and extra cells together, 20 for each name. A model with more names is refused with 40.
+    pub memory: usize,
+    /// How names are spread over the index: no answer depends on it. Without one it is drawn from the system.
+    pub seed: Option<u64>,
+}
+
+impl Default for Options {
+    fn default() -> Self {
+        Options { cells: usize::MAX, memory: MEMORY, seed: None }
+    }
+}
+
+/// An answer, and how many cells it was given under. Only a 40 would be another one with more.
+#[derive(Clone, Copy, Debug, PartialEq, Eq)]
+pub struct Checked {
+    pub answer: Result<Accepted, Refusal>,
+    pub cells: usize,
+}
+
+impl Options {
+    /// Accepts or refuses `model` for a runtime that has `operators`. Where the system has no memory for more cells, a 40 that
+    /// fewer gave is the answer.
+    pub fn check(&self, model: &[u8], operators: &[u8]) -> Checked {
+        let seed = self.seed.unwrap_or_else(random);
+        let need = need(model);
+        let most = self.most(model.len());
+        let mut last = None;
+        let mut count = Some(need.names.min(FIRST).min(most));
+        while let Some(cells) = count {
+            let (Some(mut own), Some(mut extra)) = (zeroed(cells), zeroed(self.extra(cells, need.lists))) else { break };
+            let answer = check_indexed(model, operators, &mut own, &mut extra, seed);
+            last = Some(Checked { answer, cells });
+            count = next(cells, need.names, most).filter(|_| is_full(&answer));
+        }
+        last.unwrap_or_else(|| Checked { answer: check_with(model, operators, &mut []), cells: 0 })
+    }
+
+    /// More cells than this are of no use to a model of this length, or are not allowed.
+    fn most(&self, length: usize) -> usize {
+        self.cells.min(length / LEAST_NAME).min(self.memory / CELL / 5)
+    }
+
+    /// Four for each cell, and as many for the names of lists as the memory has room for.
+    fn extra(&self, cells: usize, lists: usize) -> usize {
+        let left = self.memory / CELL - 5 * cells;
+        4 * cells + left.min(2 + 4 * lists)
+    }
+}
+
+/// Accepts or refuses `model` for a runtime that has `operators`. Cells are allocated as the model needs them, at most `MEMORY`
+/// bytes; names are found by an index under a random seed, so that no model can be made to stall it.
+pub fn check(model: &[u8], operators: &[u8]) -> Result<Accepted, Refusal> {
+    Options::default().check(model, operators).answer
+}
+
+fn need(model: &[u8]) -> Need {
+    let most = Need { names: model.len() / LEAST_NAME, lists: model.len() / LEAST_ENTRY };
+    if model.len() <= SMALL {
+        return most;
+    }
+    if model.len() > LARGEST_MODEL {
+        return Need::default();
+    }
+    let found = skim(model);
+    Need { names: found.names.min(most.names), lists: found.lists.min(most.lists) }
+}
+
+fn is_full(answer: &Result<Accepted, Refusal>) -> bool {
+    matches!(answer, Err(refusal) if refusal.number == 40)
+}
+
+/// How many cells to try after `cells` were too few: as many as were counted, and should these not do, up to `most`.
+fn next(cells: usize, counted: usize, most: usize) -> Option<usize> {
+    let goal = if cells < counted { counted.min(most) } else { most };
+    Some(goal.min(cells.max(FIRST).saturating_mul(GROWTH))).filter(|n| *n > cells)
+}
+
+/// Zeroed cells, or none where there is no memory for so many.
+fn zeroed(count: usize) -> Option<Vec<u32>> {
+    let mut cells = Vec::new();
+    cells.try_reserve_exact(count).ok()?;
+    cells.resize(count, 0);
+    Some(cells)
+}
+
+/// A number that whoever made the model cannot know. `RandomState` has its keys from the system; unlike a read of
+/// /dev/urandom, it needs no file and no way to fail.
+fn random() -> u64 {
+    RandomState::new().build_hasher().finish()
+}
+
+#[cfg(test)]
+mod tests;
