@@ -17,7 +17,7 @@ from pathlib import Path
 
 LARGEST_MODEL = 67_108_864
 
-# Document 01's numbers, each with a name and a line for people, as in bindings/rust/src/rules.rs.
+# Document 01's numbers and 65, each with a name and a line for people, as in bindings/rust/src/rules.rs.
 RULES = {
     1: ("past-end", "a varint, value or length runs past the end of its message"),
     2: ("tenth-byte", "the tenth byte of a varint is above 1"),
@@ -53,6 +53,7 @@ RULES = {
     37: ("no-shape", "a tensor type of the main graph must have a shape"),
     38: ("negative-dim", "a dim_value is negative"),
     40: ("cells-full", "more names are visible together than there are cells"),
+    65: ("too-few-extra", "a program lent the indexed check fewer extra cells than four times its cells"),
 }
 
 
