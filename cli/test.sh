@@ -130,7 +130,7 @@ many_names() {
     (ulimit -v 32000 && exec "$gate" check outputs.onnx unnamed.onnx >"$work/out" 2>"$work/err")
     same "status without memory" $? 2
     same "answers without memory" "$(cat "$work/out")" "unnamed.onnx: accepted nodes 20000 names 20001"
-    same "message without memory" "$(cut -d' ' -f1-9 "$work/err")" "onnx-gate: outputs.onnx: there is no memory for more than"
+    same "message without memory" "$(sed 's/[0-9]\+/N/' "$work/err")" "onnx-gate: outputs.onnx: there is no memory for N cells"
     rm -f ./*.onnx
 }
 

@@ -81,16 +81,15 @@ fn judged(check: &Check, list: &[u8], file: &OsStr, show: &Show) -> (u8, Result<
     };
     warn_of_size(file, &model);
     let options = Options { cells: check.cells.unwrap_or(usize::MAX), seed: check.seed, ..Options::default() };
-    let Checked { answer, cells } = options.check(&model, list);
+    let Checked { answer, cells } = match options.check(&model, list) {
+        Ok(checked) => checked,
+        Err(why) => return (WRONG, Err(why.to_string())),
+    };
     match answer {
         Ok(accepted) if show.json => (DONE, Ok(vec![json::accepted(&file.to_string_lossy(), accepted)])),
         Ok(accepted) => {
             let line = show.paint.good(&accepted.to_string());
             (DONE, Ok(vec![format!("{}: {line}", text::file(file))]))
-        }
-        // nobody asked for so few cells, so that this says nothing of the model
-        Err(refusal) if refusal.number == 40 && cells < options.cells => {
-            (WRONG, Err(format!("there is no memory for more than {cells} names")))
         }
         Err(refusal) => {
             let given = Given { model: &model, operators: list, cells };

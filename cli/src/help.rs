@@ -18,7 +18,7 @@ Options:
   -h, --help     print this, or the help of a command
   -V, --version  print the version
 
-Exit status: 0 all accepted, 1 some refused, 2 bad usage or an unreadable file.
+Exit status: 0 all accepted, 1 some refused, 2 bad usage or a file that cannot be judged.
 ";
 
 pub const CHECK: &str = "\
@@ -41,8 +41,8 @@ Options:
   -h, --help                 print this
   -V, --version              print the version
 
-Exit status: 0 all accepted, 1 some refused (an unsound list refuses every model), 2 bad usage or an
-unreadable file.
+Exit status: 0 all accepted, 1 some refused (an unsound list refuses every model), 2 bad usage, an unreadable
+file, or no memory for the names of a model.
 ";
 
 pub const OPERATORS: &str = "\

@@ -11,8 +11,8 @@
 //! }
 //! ```
 //!
-//! `check` allocates as many cells as the model needs; `Options` bounds them. `check_indexed` and `check_with` work in the
-//! caller's cells and allocate nothing.
+//! `check` allocates as many cells as the model needs; `Options` bounds them. `check_indexed` and `check_with` work in
+//! the caller's cells and allocate nothing.
 
 pub mod operators;
 mod refusal;
@@ -22,7 +22,7 @@ mod skim;
 
 pub use refusal::Refusal;
 pub use rules::{rule, Rule, RULES};
-pub use sizing::{check, Checked, Options, MEMORY};
+pub use sizing::{check, Checked, NoMemory, Options, MEMORY};
 
 use std::fmt;
 
@@ -91,8 +91,8 @@ impl Answer {
     }
 }
 
-/// The check in the caller's cells, one for each name that may be visible at once, and with no index: its time grows with the
-/// square of the names. All cells are zero afterwards, whatever they held.
+/// The check in the caller's cells, one for each name that may be visible at once, and with no index: its time grows
+/// with the square of the names. All cells are zero afterwards, whatever they held.
 pub fn check_with(model: &[u8], operators: &[u8], cells: &mut [u32]) -> Result<Accepted, Refusal> {
     // SAFETY: a Rattle slice is a pointer and a length, never null here. The function only reads the model and
     // the list, writes only the cells, keeps none of them, and has no precondition.
@@ -109,9 +109,9 @@ pub fn check_with(model: &[u8], operators: &[u8], cells: &mut [u32]) -> Result<A
     answer.told()
 }
 
-/// The same answer for every `seed`, by an index in extra cells; refused with 65 where these are fewer than four times the cells.
-/// `4 * cells.len() + 2 + 4 * (model.len() / 7)` make the time linear, if nobody who makes a model knows the seed. All cells
-/// of both kinds are zero afterwards, whatever they held.
+/// The same answer for every `seed`, by an index in extra cells; refused with 65 where these are fewer than four times
+/// the cells. With `4 * cells.len() + 2 + 4 * (model.len() / 7)` of them the time is linear, as long as whoever makes
+/// the model does not know the seed. All cells of both kinds are zero afterwards, whatever they held.
 pub fn check_indexed(
     model: &[u8],
     operators: &[u8],

@@ -1,5 +1,5 @@
-//! How much of a model there is to remember, counted in one quick pass. It only sizes memory: the library judges, and its
-//! answer is the same whatever is counted here. Any bytes are survived, and nothing is allocated.
+//! How much of a model there is to remember, counted in one quick pass. It only sizes memory: the library judges, and
+//! its answer is the same whatever is counted here. Any bytes are survived, and nothing is allocated.
 
 /// Upper bounds for a model that the wire rules let pass.
 #[derive(Clone, Copy, Debug, Default, PartialEq, Eq)]

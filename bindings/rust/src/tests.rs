@@ -10,7 +10,7 @@ fn bytes(hex: &str) -> Vec<u8> {
     hex.split_whitespace().map(|b| u8::from_str_radix(b, 16).unwrap()).collect()
 }
 
-/// The line for a model, given as hex: one for the plain check, and for the indexed one with any seed and enough extra cells.
+/// The line for a model, given as hex: that of the plain check, and of the indexed one under each seed.
 fn line(hex: &str, count: usize) -> String {
     let model = bytes(hex);
     let mut cells = vec![0xDEAD_BEEF; count];

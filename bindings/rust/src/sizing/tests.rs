@@ -21,7 +21,7 @@ fn list() -> Vec<u8> {
 }
 
 fn under(options: Options, model: &[u8]) -> (String, usize) {
-    let checked = options.check(model, &list());
+    let checked = options.check(model, &list()).unwrap();
     (checked.answer.map_or_else(|r| r.to_string(), |a| a.to_string()), checked.cells)
 }
 
@@ -47,7 +47,7 @@ fn limits_are_kept() {
     assert_eq!(under(cells(99_999), &large), (format!("refused 40 at {}", 24 + 99_999 * 9), 99_999));
 }
 
-/// 20 bytes for a name are enough, and a byte less is one name less. None at all is survived.
+/// 20 bytes for a name are enough, and a byte less is one name less.
 #[test]
 fn memory_is_kept() {
     for (model, count) in [(outputs(50), 50), (outputs(100_000), 100_000)] {
@@ -57,15 +57,17 @@ fn memory_is_kept() {
         assert_eq!(under(memory(20 * count - 1), &model), full);
         assert_eq!(under(memory(0), &model), ("refused 40 at 24".into(), 0));
     }
-    assert_eq!(zeroed(usize::MAX / CELL), None);
-    assert_eq!(zeroed(3), Some(vec![0; 3]));
+    assert_eq!(zeroed(usize::MAX / CELL), Err(NoMemory { cells: usize::MAX / CELL }));
+    assert_eq!(zeroed(3), Ok(vec![0; 3]));
 }
 
 #[test]
 fn extra_cells_fit_the_memory() {
     let options = Options { memory: 4 * 100, ..Options::default() };
     assert_eq!(options.most(1_000_000), 20);
-    assert_eq!((options.extra(20, 9), options.extra(19, 9), options.extra(0, 3), options.extra(0, 99)), (80, 81, 14, 100));
+    for (cells, lists, extra) in [(20, 9, 80), (19, 9, 81), (0, 3, 14), (0, 99, 100)] {
+        assert_eq!(options.extra(cells, lists), extra);
+    }
     assert_eq!(Options::default().extra(10, 5), 62);
 }
 
