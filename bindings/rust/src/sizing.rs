@@ -32,7 +32,8 @@ const _: () = assert!(CELL * (5 * (LARGEST_MODEL / LEAST_NAME) + 2 + 4 * (LARGES
 pub struct Options {
     /// The most names that may be visible at once. A model with more is refused with 40.
     pub cells: usize,
-    /// The most bytes of cells and extra cells together, 20 for each name. A model with more names is refused with 40.
+    /// The most bytes of cells and extra cells together, 20 for each name. A model with more names is refused with 40;
+    /// one with long lists of named things, 16 for each, takes longer where they do not fit.
     pub memory: usize,
     /// How names are spread over the index: no answer depends on it. Without one it is drawn from the system.
     pub seed: Option<u64>,

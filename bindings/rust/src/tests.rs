@@ -24,6 +24,27 @@ fn line(hex: &str, count: usize) -> String {
     answer.map_or_else(|r| r.to_string(), |a| a.to_string())
 }
 
+/// Each example as it is, and so many times with some bytes changed, the same ones in every run.
+pub fn damaged(times: usize) -> impl Iterator<Item = Vec<u8>> {
+    let mut state = 1u64;
+    let mut below = move |n: usize| {
+        state = state.wrapping_mul(6364136223846793005).wrapping_add(1442695040888963407);
+        (state >> 33) as usize % n
+    };
+    let files = std::fs::read_dir(concat!(env!("CARGO_MANIFEST_DIR"), "/../../examples")).unwrap();
+    let mut paths: Vec<_> = files.map(|file| file.unwrap().path()).collect();
+    paths.sort();
+    let rounds = paths.into_iter().flat_map(move |path| (0..=times).map(move |round| (path.clone(), round)));
+    rounds.map(move |(path, round)| {
+        let mut model = std::fs::read(path).unwrap();
+        for _ in 0..round.min(1 + round % 3) {
+            let at = below(model.len() + 1);
+            model.get_mut(at).into_iter().for_each(|byte| *byte = below(256) as u8);
+        }
+        model
+    })
+}
+
 /// The indexed check in cells that are not zero.
 fn indexed(model: &[u8], count: usize, extra: usize, seed: u64) -> Result<Accepted, Refusal> {
     let (mut cells, mut extra) = (vec![0xDEAD_BEEF; count], vec![0xFFFF_FFFF; extra]);

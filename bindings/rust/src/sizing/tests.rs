@@ -1,5 +1,6 @@
 use super::*;
-use crate::operators;
+use crate::tests::damaged;
+use crate::{check_with, operators};
 
 /// A model with one node of so many outputs, of nine bytes each from byte 24 on.
 fn outputs(count: usize) -> Vec<u8> {
@@ -33,6 +34,25 @@ fn any_number_of_names() {
         let expected = if count == 0 { Err(34) } else { Ok(accepted) };
         assert_eq!(check(&model, &list()).map_err(|r| r.number), expected, "{count}");
     }
+}
+
+/// Small and skimmed, with no limit and with few cells, the answer is that of the plain check.
+#[test]
+fn answers_are_the_plain_ones() {
+    let doc_string = part(6, &[0; SMALL]);
+    let (mut accepted, mut refused) = (0, std::collections::BTreeSet::new());
+    for model in damaged(40) {
+        for model in [&model, &[&model, &doc_string[..]].concat()] {
+            for cells in [model.len(), 3] {
+                let plain = check_with(model, &list(), &mut vec![0; cells]);
+                let options = Options { cells, ..Options::default() };
+                assert_eq!(options.check(model, &list()).unwrap().answer, plain, "{model:x?}");
+                accepted += usize::from(plain.is_ok());
+                refused.extend(plain.err().map(|r| r.number));
+            }
+        }
+    }
+    assert!(accepted > 30 && refused.len() > 25, "{accepted} {refused:?}");
 }
 
 #[test]

@@ -1,4 +1,5 @@
 use super::*;
+use crate::tests::damaged;
 use crate::{check_with, operators};
 
 fn field_of(number: u64, contents: &[u8]) -> Vec<u8> {
@@ -84,26 +85,13 @@ fn lengths_that_make_no_sense() {
 #[test]
 fn bounds_hold() {
     let list = operators::write(&[("ai.onnx", 7, 21), ("ai.onnx.ml", 1, 5)]).unwrap();
-    let mut random = 1u64;
-    let mut below = move |n: usize| {
-        random = random.wrapping_mul(6364136223846793005).wrapping_add(1442695040888963407);
-        (random >> 33) as usize % n
-    };
     let mut accepted = 0;
-    for file in std::fs::read_dir(concat!(env!("CARGO_MANIFEST_DIR"), "/../../examples")).unwrap() {
-        let sound = std::fs::read(file.unwrap().path()).unwrap();
-        for round in 0..300 {
-            let mut model = sound.clone();
-            for _ in 0..round.min(1 + round % 3) {
-                let at = below(model.len() + 1);
-                model.get_mut(at).into_iter().for_each(|byte| *byte = below(256) as u8);
-            }
-            let found = skim(&model);
-            assert!(found.names + found.lists <= model.len());
-            if let Ok(counts) = check_with(&model, &list, &mut [0; 256]) {
-                accepted += 1;
-                assert!(counts.names as usize <= found.names, "{counts} and {found:?}");
-            }
+    for model in damaged(300) {
+        let found = skim(&model);
+        assert!(found.names + found.lists <= model.len());
+        if let Ok(counts) = check_with(&model, &list, &mut [0; 256]) {
+            accepted += 1;
+            assert!(counts.names as usize <= found.names, "{counts} and {found:?}");
         }
     }
     assert!(accepted > 100, "{accepted}");
