@@ -80,6 +80,8 @@ def _load():
     if not path.exists():
         raise ImportError(f"{path} is missing: run bindings/python/build.sh, or set ONNX_GATE_LIB")
     library = ctypes.CDLL(str(path))
+    if not hasattr(library, "onnx_gate_check_indexed"):
+        raise ImportError(f"{path} was built from an older library: run bindings/python/build.sh again")
     size, cells = ctypes.c_size_t, ctypes.POINTER(ctypes.c_uint32)
     lent = [ctypes.c_char_p, size, ctypes.c_char_p, size, cells, size, cells, size]
     library.onnx_gate_check_indexed.argtypes = [*lent, ctypes.c_uint64]

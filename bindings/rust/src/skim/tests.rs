@@ -36,6 +36,8 @@ fn what_is_counted() {
     assert_eq!(skim(&unnamed), need(1, 0));
     let fixed = vec![0x79, 1, 2, 3, 4, 5, 6, 7, 8, 0x7D, 1, 2, 3, 4];
     assert_eq!(skim(&[field_of(99, &graph(b"")), fixed, field_of(8, b"")].concat()), need(0, 1), "unknown ones");
+    let padded = [&[0x08][..], &[0xFF; 9], &[1, 0xC2, 0x80, 0x80, 0x80, 0, 0x80, 0x80, 0]].concat();
+    assert_eq!(skim(&padded), need(0, 1), "varints of ten bytes, five and three");
 }
 
 #[test]
@@ -43,7 +45,7 @@ fn graphs_in_graphs() {
     let mut inner = graph(b"");
     for depth in 2..=40 {
         inner = graph(&field_of(if depth % 2 == 0 { 6 } else { 11 }, &inner));
-        let met = depth.min(DEEPEST);
+        let met = depth.min(8);
         assert_eq!(skim(&field_of(7, &inner)), need(4 * met, 3 * met), "depth {depth}");
     }
 }
@@ -52,7 +54,7 @@ fn graphs_in_graphs() {
 #[test]
 fn nesting_without_end() {
     let inner = (0..2_000).fold(Vec::new(), |inner, _| field_of(1, &field_of(5, &field_of(6, &inner))));
-    assert_eq!(skim(&field_of(7, &inner)), need(0, DEEPEST));
+    assert_eq!(skim(&field_of(7, &inner)), need(0, 8));
 }
 
 #[test]
