@@ -6,7 +6,7 @@
 #include <sys/random.h>
 
 #define CELLS 65536 /* a model with more names visible at once is refused with 40 */
-#define LISTS 65536 /* of this many named nodes, initializers and attributes each is found by the index */
+#define LISTS 65536 /* a model with longer lists of named nodes, attributes or initializers gets the same answer later */
 
 static const uint8_t operators[] = {0, 0, 0, 11, 1, 0, 8, 0, 0, 0, 7, 0, 0, 0, 21};
 static uint8_t model[67108865]; /* one byte more than may be accepted, so that no model passes because it was cut */
