@@ -48,6 +48,9 @@ examples() {
     try 1 '*: refused 40 at *there are 12 cells*' '' check --cells 12 ok-tagger.onnx
     try 1 '*: refused 14 at *list allows 7 to 12*' '' check --allow ai.onnx:7-12 ok-tagger.onnx
     try 0 '*accepted*accepted*' '' check ok-tagger.onnx ok-network.onnx
+    for seed in 0 1 18446744073709551615 0xfedcba9876543210; do
+        same "examples with seed $seed" "$("$gate" check --seed "$seed" ./*.onnx 2>/dev/null | diff "$root/cli/tests/examples.txt" -)" ""
+    done
     cd "$work" || exit 2
 }
 
@@ -71,6 +74,10 @@ bad_input() {
     try 2 '' '*starts at version 0*' check --allow ai.onnx:0-21 "$ok"
     try 2 '' '*exclude each other' check --allow ai.onnx:7-21 --operators l "$ok"
     try 2 '' '*is not a number*' check --cells -5 "$ok"
+    for seed in '' -1 +1 x 0x 0xg 0X1 1e3 ' 1' 18446744073709551616 0x10000000000000000; do
+        try 2 '' '*is not a number below 2^64*' check --seed "$seed" "$ok"
+    done
+    try 2 '' '*--seed needs a value' check "$ok" --seed
     try 2 '' '*no option --jason*' check --jason "$ok"
     try 2 '' 'onnx-gate: no.lst: no such file' check --operators no.lst "$ok"
     try 2 '' 'onnx-gate: /tmp: is a directory' check --operators /tmp "$ok"
@@ -100,6 +107,33 @@ large_input() {
     rm -f large.onnx above.onnx largest.onnx
 }
 
+# Whether the best of three runs on an accepted model takes less than a tenth of a second.
+quick() {
+    local start took best=999999999
+    for _ in 1 2 3; do
+        start=${EPOCHREALTIME/./}
+        "$gate" check "$1" >"$work/out" || bad "status for $1"
+        took=$((${EPOCHREALTIME/./} - start))
+        best=$((took < best ? took : best))
+    done
+    if [ "$best" -lt 100000 ]; then ok; else bad "$1 took $best microseconds"; fi
+}
+
+many_names() {
+    python3 "$root/cli/tests/large.py" "$root/examples" .
+    try 0 '*: accepted nodes 20000 names 20001' '' check unnamed.onnx
+    try 0 '*: accepted nodes 20000 names 20001' '' check --cells 20001 --seed 7 unnamed.onnx
+    try 1 '*: refused 40 at *there are 20000 cells*' '' check --cells 20000 unnamed.onnx
+    quick unnamed.onnx
+    try 0 '*: accepted nodes 1 names 1500000' '' check outputs.onnx
+    # with no memory for them it is not judged, and the next one is
+    (ulimit -v 32000 && exec "$gate" check outputs.onnx unnamed.onnx >"$work/out" 2>"$work/err")
+    same "status without memory" $? 2
+    same "answers without memory" "$(cat "$work/out")" "unnamed.onnx: accepted nodes 20000 names 20001"
+    same "message without memory" "$(sed 's/[0-9]\+/N/' "$work/err")" "onnx-gate: outputs.onnx: there is no memory for N cells"
+    rm -f ./*.onnx
+}
+
 operator_lists() {
     try 0 '' '' operators write l.lst --allow :7-21
     same "list L" "$(od -An -tx1 l.lst | tr -d ' \n')" "0000000b0100080000000700000015"
@@ -119,7 +153,8 @@ said() {
     try 0 'Makes and prints operator lists*' '' operators write -h
     try 0 'onnx-gate [0-9]*' '' --version
     try 0 'onnx-gate [0-9]*' '' check -V
-    try 0 ' 1  past-end*40  cells-full*' '' rules
+    try 0 ' 1  past-end*40  cells-full*65  too-few-extra*' '' rules
+    try 0 'Prints every refusal number*65 is for programs*' '' rules --help
     "$gate" rules >"$work/rules"
     same "the rules in Python" "$(python3 "$root/cli/tests/same_rules.py" "$work/rules" "$root/bindings/python/onnx_gate.py")" "same"
 }
@@ -132,6 +167,7 @@ examples "$@"
 as_json
 bad_input
 large_input
+many_names
 operator_lists
 said
 on_terminal

@@ -3,20 +3,30 @@
 
 #include <inttypes.h>
 #include <stdio.h>
+#include <sys/random.h>
+
+#define CELLS 65536 /* a model with more names visible at once is refused with 40 */
+#define LISTS 65536 /* a model with longer lists of named nodes, attributes or initializers gets the same answer later */
 
 static const uint8_t operators[] = {0, 0, 0, 11, 1, 0, 8, 0, 0, 0, 7, 0, 0, 0, 21};
 static uint8_t model[67108865]; /* one byte more than may be accepted, so that no model passes because it was cut */
-static uint32_t cells[4096];
+static uint32_t cells[CELLS], extra[4 * CELLS + 2 + 4 * LISTS];
 
 int main(int argc, char **argv)
 {
+    uint64_t seed;
     FILE *file = argc == 2 ? fopen(argv[1], "rb") : NULL;
     if (file == NULL) {
         fprintf(stderr, "usage: example MODEL\n");
         return 2;
     }
     size_t length = fread(model, 1, sizeof model, file);
-    struct onnx_gate_answer answer = onnx_gate_check(model, length, operators, sizeof operators, cells, 4096);
+    if (ferror(file) || getrandom(&seed, sizeof seed, 0) != (ssize_t)sizeof seed) {
+        perror("example");
+        return 2;
+    }
+    struct onnx_gate_answer answer = onnx_gate_check_indexed(model, length, operators, sizeof operators, cells, CELLS, extra,
+                                                             sizeof extra / sizeof extra[0], seed);
     if (answer.refusal == 0)
         printf("accepted nodes %" PRIu64 " names %" PRIu64 "\n", answer.nodes, answer.names);
     else

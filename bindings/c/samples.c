@@ -1,4 +1,4 @@
-/* Document 01's sample models through onnx_gate.h, and the name service. Prints what fails, and how many passed. */
+/* Document 01's sample models through both checks of onnx_gate.h, and the name service. Prints what fails, and how many passed. */
 #include "onnx_gate.h"
 
 #include <stdio.h>
@@ -72,21 +72,85 @@ static int is(struct onnx_gate_answer a, struct onnx_gate_answer b)
     return a.refusal == b.refusal && a.place == b.place && a.nodes == b.nodes && a.names == b.names;
 }
 
+#define GARBAGE 0xA5A5A5A5u
+
+/* cells that are not zero, more than any sample takes */
+struct lent {
+    uint32_t cells[10], extra[512];
+};
+
+static void fill(struct lent *lent)
+{
+    memset(lent, 0xA5, sizeof *lent);
+}
+
+/* whether the first `count` are zero, and the one behind them is as it was */
+static int cleared(const uint32_t *cells, size_t count)
+{
+    size_t i;
+    for (i = 0; i < count; i++)
+        if (cells[i] != 0)
+            return 0;
+    return cells[count] == GARBAGE;
+}
+
+static struct onnx_gate_answer plain(const struct sample *s, struct lent *lent)
+{
+    return onnx_gate_check((const uint8_t *)s->model, s->model_length, (const uint8_t *)s->operators, s->operators_length,
+                           s->cells ? lent->cells : NULL, s->cells);
+}
+
+static struct onnx_gate_answer indexed(const struct sample *s, struct lent *lent, size_t extra, uint64_t seed)
+{
+    return onnx_gate_check_indexed((const uint8_t *)s->model, s->model_length, (const uint8_t *)s->operators, s->operators_length,
+                                   s->cells ? lent->cells : NULL, s->cells, extra ? lent->extra : NULL, extra, seed);
+}
+
 static void check_sample(const struct sample *s, size_t which)
 {
-    uint32_t cells[10], zero[10] = {0};
-    memset(cells, 0xA5, sizeof cells);
-    struct onnx_gate_answer answer = onnx_gate_check((const uint8_t *)s->model, s->model_length, (const uint8_t *)s->operators,
-                                                     s->operators_length, s->cells ? cells : NULL, s->cells);
-    expect(is(answer, s->answer), "sample", which);
-    expect(memcmp(cells, zero, s->cells * sizeof cells[0]) == 0, "cells zero, sample", which);
-    expect(cells[s->cells] == 0xA5A5A5A5, "cell behind the cells, sample", which);
+    struct lent lent;
+    fill(&lent);
+    expect(is(plain(s, &lent), s->answer), "sample", which);
+    expect(cleared(lent.cells, s->cells), "cells, sample", which);
+    expect(lent.extra[0] == GARBAGE, "no extra cells, sample", which);
+}
+
+static void check_indexed(const struct sample *s, size_t which, size_t extra, uint64_t seed)
+{
+    struct onnx_gate_answer too_few = {65, 0, 0, 0};
+    struct lent lent;
+    fill(&lent);
+    expect(is(indexed(s, &lent, extra, seed), extra < 4 * s->cells ? too_few : s->answer), "indexed sample", which);
+    expect(cleared(lent.cells, s->cells), "cells, indexed sample", which);
+    expect(cleared(lent.extra, extra), "extra cells, indexed sample", which);
+}
+
+static void check_indexed_sample(const struct sample *s, size_t which)
+{
+    static const uint64_t seeds[] = {0, 1, UINT64_C(0x0123456789ABCDEF), UINT64_MAX};
+    static const size_t more[] = {0, 1, 2, 5, 6, 7, 50, 400};
+    size_t i, j;
+    for (i = 0; i < sizeof seeds / sizeof seeds[0]; i++) {
+        for (j = 0; j < sizeof more / sizeof more[0]; j++)
+            check_indexed(s, which, 4 * s->cells + more[j], seeds[i]);
+        if (s->cells > 0) {
+            check_indexed(s, which, 4 * s->cells - 1, seeds[i]);
+            check_indexed(s, which, 0, seeds[i]);
+        }
+    }
 }
 
 static void check_large(size_t length, struct onnx_gate_answer expected)
 {
+    struct onnx_gate_answer too_few = {65, 0, 0, 0};
+    struct sample s = {NULL, length, BYTES(L), 0, expected};
+    struct lent lent;
     uint8_t *model = (uint8_t *)calloc(length, 1);
-    expect(model && is(onnx_gate_check(model, length, (const uint8_t *)L, sizeof L - 1, NULL, 0), expected), "large", length);
+    s.model = (const char *)model;
+    expect(model && is(plain(&s, &lent), expected), "large", length);
+    expect(model && is(indexed(&s, &lent, 0, 1), expected), "large, indexed", length);
+    s.cells = 1;
+    expect(model && is(indexed(&s, &lent, 3, 1), too_few), "large, too few extra cells", length);
     free(model);
 }
 
@@ -94,8 +158,10 @@ int main(void)
 {
     struct onnx_gate_answer bad_tag = {3, 0, 0, 0}, too_large = {7, 0, 0, 0};
     size_t i;
-    for (i = 0; i < sizeof samples / sizeof samples[0]; i++)
+    for (i = 0; i < sizeof samples / sizeof samples[0]; i++) {
         check_sample(&samples[i], i);
+        check_indexed_sample(&samples[i], i);
+    }
     for (i = 0; i < sizeof parts / sizeof parts[0]; i++) {
         struct onnx_gate_part p = onnx_gate_show_name((const uint8_t *)M1, sizeof M1 - 1, parts[i].start, parts[i].length);
         expect(p.start == parts[i].part.start && p.length == parts[i].part.length, "part", i);

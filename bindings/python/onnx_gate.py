@@ -13,11 +13,21 @@ import ctypes
 import os
 import struct
 from dataclasses import dataclass
+from operator import index
 from pathlib import Path
 
 LARGEST_MODEL = 67_108_864
 
-# Document 01's numbers, each with a name and a line for people, as in bindings/rust/src/rules.rs.
+# Up to this many bytes a model gets the cells that any model of its size can need, under 10 MB; a larger one is skimmed first.
+SMALL = 1_048_576
+
+_LEAST_NAME = 3  # bytes of a field that holds a visible name
+_LEAST_ENTRY = 7  # bytes of an import, initializer, named node or attribute that is not refused before its name is kept
+_SKIMMED = 50_000  # fields, a few hundredths of a second
+_FIRST = 65_536  # the most cells that a model starts with
+_GROWTH = 8  # the tries before the last have little more cells than it has, all together
+
+# Document 01's numbers and 65, each with a name and a line for people, as in bindings/rust/src/rules.rs.
 RULES = {
     1: ("past-end", "a varint, value or length runs past the end of its message"),
     2: ("tenth-byte", "the tenth byte of a varint is above 1"),
@@ -53,6 +63,7 @@ RULES = {
     37: ("no-shape", "a tensor type of the main graph must have a shape"),
     38: ("negative-dim", "a dim_value is negative"),
     40: ("cells-full", "more names are visible together than there are cells"),
+    65: ("too-few-extra", "a program lent the indexed check fewer extra cells than four times its cells"),
 }
 
 
@@ -69,9 +80,12 @@ def _load():
     if not path.exists():
         raise ImportError(f"{path} is missing: run bindings/python/build.sh, or set ONNX_GATE_LIB")
     library = ctypes.CDLL(str(path))
+    if not hasattr(library, "onnx_gate_check_indexed"):
+        raise ImportError(f"{path} was built from an older library: run bindings/python/build.sh again")
     size, cells = ctypes.c_size_t, ctypes.POINTER(ctypes.c_uint32)
-    library.onnx_gate_check.argtypes = [ctypes.c_char_p, size, ctypes.c_char_p, size, cells, size]
-    library.onnx_gate_check.restype = _Answer
+    lent = [ctypes.c_char_p, size, ctypes.c_char_p, size, cells, size, cells, size]
+    library.onnx_gate_check_indexed.argtypes = [*lent, ctypes.c_uint64]
+    library.onnx_gate_check_indexed.restype = _Answer
     library.onnx_gate_show_name.argtypes = [ctypes.c_char_p, size, ctypes.c_uint64, ctypes.c_uint64]
     library.onnx_gate_show_name.restype = _Part
     return library
@@ -117,17 +131,121 @@ def _lent(data):
     return data if isinstance(data, bytes) else bytes(memoryview(data))
 
 
-def check(model, operators, cells=None):
-    """Accepts or refuses the bytes `model` for a runtime that has `operators`. `cells` is how many names may be visible
-    at once; without it there are as many as the model can need."""
-    model, operators = _lent(model), _lent(operators)
-    if cells is None:
-        cells = min(len(model), LARGEST_MODEL) // 3  # a field that holds a name has three bytes or more
-    if cells < 0:
-        raise ValueError("cells must not be negative")
-    working = (ctypes.c_uint32 * max(cells, 1))()
-    found = _library.onnx_gate_check(model, len(model), operators, len(operators), working, cells)
+def _indexed(model, operators, cells, extra, seed):
+    own, more = (ctypes.c_uint32 * cells)(), (ctypes.c_uint32 * extra)()  # zeroed
+    found = _library.onnx_gate_check_indexed(model, len(model), operators, len(operators), own, cells, more, extra, seed)
     return Answer(found.refusal, found.place, found.nodes, found.names)
+
+
+def _sized(model, operators, limit, seed):
+    """Starts with few cells where a model may have many names, and gives more after a 40: no other answer depends on them."""
+    names, lists = _needed(model)
+    most = min(len(model) // _LEAST_NAME, limit)
+    cells = min(names, most, _FIRST) if len(model) > SMALL else most
+    while True:
+        answer = _indexed(model, operators, cells, 4 * cells + 2 + 4 * lists, seed)
+        if answer.refusal != 40 or cells == most:
+            return answer
+        cells = min(max(cells, _FIRST) * _GROWTH, most)
+
+
+def _needed(model):
+    """How many names can be visible, and be in lists that are open at once. This only sizes memory."""
+    most = len(model) // _LEAST_NAME, len(model) // _LEAST_ENTRY
+    if len(model) <= SMALL:
+        return most
+    if len(model) > LARGEST_MODEL:
+        return 0, 0
+    try:
+        names, lists = _skim(model) or most
+    except _Unreadable:  # the library refuses such a model before it keeps a name
+        return 0, 0
+    return min(names, most[0]), min(lists, most[1])
+
+
+class _Unreadable(Exception):
+    pass
+
+
+# What is counted in which message, by field numbers, and the messages to look into.
+_NAMES = {("graph", 5), ("graph", 11), ("node", 2)}
+_LISTS = {("model", 8), ("graph", 5), ("node", 3), ("node", 5)}
+_INSIDE = {
+    ("model", 7): "graph",
+    ("graph", 1): "node",
+    ("node", 5): "attribute",
+    ("attribute", 6): "graph",
+    ("attribute", 11): "graph",
+}
+
+
+def _skim(model):
+    """Counts as bindings/rust/src/skim.rs does; None where the model has too many fields to count in Python."""
+    names = lists = met = 0
+    waiting = [("model", 0, len(model))]
+    while waiting:
+        kind, at, end = waiting.pop()
+        for number, start, stop in _fields(model, at, end):
+            met += 1
+            if met > _SKIMMED:
+                return None
+            field = kind, number
+            names += field in _NAMES
+            lists += field in _LISTS
+            if field in _INSIDE:
+                waiting.append((_INSIDE[field], start, stop))
+    return names, lists
+
+
+def _fields(data, at, end):
+    """The number of each field of a message, and where its contents start and stop."""
+    while at < end:
+        tag, at = _varint(data, at, end)
+        wire = tag & 7
+        if tag < 8 or wire not in (0, 1, 2, 5):
+            raise _Unreadable
+        value, at = _varint(data, at, end) if wire in (0, 2) else (0, at)
+        stop = at + {0: 0, 1: 8, 2: value, 5: 4}[wire]
+        if stop > end:
+            raise _Unreadable
+        yield tag >> 3, at, stop
+        at = stop
+
+
+def _varint(data, at, end):
+    value = 0
+    for i in range(min(10, end - at)):
+        value |= (data[at + i] & 0x7F) << 7 * i
+        if data[at + i] < 0x80:
+            return value, at + i + 1
+    raise _Unreadable
+
+
+def check(model, operators, cells=None, extra=None, seed=None):
+    """Accepts or refuses the bytes `model` for a runtime that has `operators`.
+
+    cells  how many names may be visible at once, beyond which the answer is 40; without it as many as the model needs
+    extra  how many extra cells are lent beside exactly `cells` cells: fewer than four times as many are refused with 65.
+           Without it there are enough for the time to grow no faster than the model
+    seed   how names are spread over the index, from 0 to 2**64 - 1. No answer depends on it. Without it a random one is drawn,
+           so that no model can be made to stall the check
+
+    Memory: under 10 MB for a model of up to `SMALL` bytes. For a larger one 20 bytes for each name and 16 for each initializer,
+    named node, attribute and import; where these are too many to count in Python, 2.3 times the model's size and 20 bytes for
+    each cell, of which there are eight times more, from 65,536 on, as long as the model has more names. Never above 601 MB.
+    """
+    model, operators = _lent(model), _lent(operators)
+    seed = int.from_bytes(os.urandom(8), "little") if seed is None else index(seed)
+    if not 0 <= seed < 2**64:  # ctypes would cut it
+        raise ValueError("seed must be from 0 to 2**64 - 1")
+    cells, extra = (None if count is None else index(count) for count in (cells, extra))
+    if min(cells or 0, extra or 0) < 0:
+        raise ValueError("cells and extra must not be negative")
+    if extra is None:
+        return _sized(model, operators, len(model) if cells is None else cells, seed)
+    if cells is None:
+        raise ValueError("extra says how many beside how many cells: give both")
+    return _indexed(model, operators, cells, extra, seed)
 
 
 def show_name(model, start, length):

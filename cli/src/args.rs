@@ -2,6 +2,7 @@
 use onnx_gate::operators::{self, ListFault};
 use std::ffi::{OsStr, OsString};
 use std::os::unix::ffi::OsStrExt;
+use std::str::FromStr;
 
 /// What is allowed where nothing is said: the operators of ONNX with IR 4 to 10.
 pub const DEFAULT: [(&str, u32, u32); 2] = [("ai.onnx", 7, 21), ("ai.onnx.ml", 1, 5)];
@@ -23,6 +24,7 @@ pub enum Command {
 pub struct Check {
     pub operators: Operators,
     pub cells: Option<usize>,
+    pub seed: Option<u64>,
     pub json: bool,
     pub models: Vec<OsString>,
 }
@@ -39,6 +41,7 @@ struct Words {
     operators: Option<OsString>,
     allowed: Vec<(String, u32, u32)>,
     cells: Option<usize>,
+    seed: Option<u64>,
     json: bool,
     say: Option<&'static str>,
     rest: Vec<OsString>,
@@ -50,7 +53,7 @@ pub fn parse(mut words: impl Iterator<Item = OsString>) -> Result<Command, Strin
     match command.to_str() {
         Some("-h" | "--help" | "help") => Ok(Command::Say(help::MAIN)),
         Some("-V" | "--version") => Ok(Command::Say(help::VERSION)),
-        Some("check") => check(split(words, &["--operators", "--allow", "--cells", "--json"], help::CHECK)?),
+        Some("check") => check(split(words, &["--operators", "--allow", "--cells", "--seed", "--json"], help::CHECK)?),
         Some("operators") => lists(split(words, &["--allow"], help::OPERATORS)?),
         Some("rules") => rules(split(words, &[], help::RULES)?),
         _ => Err(format!("there is no command {command:?}. Try `onnx-gate --help`.")),
@@ -101,6 +104,7 @@ impl Words {
             "--operators" if self.operators.is_some() => return Err("--operators stands twice".into()),
             "--operators" => self.operators = Some(value),
             "--cells" => self.cells = Some(cells(&value)?),
+            "--seed" => self.seed = Some(seed(&value)?),
             _ => self.allowed.push(allowed(&value)?),
         }
         Ok(())
@@ -108,10 +112,19 @@ impl Words {
 }
 
 fn cells(value: &OsStr) -> Result<usize, String> {
-    let number = value.to_str().filter(|v| v.bytes().all(|b| b.is_ascii_digit())).and_then(|v| v.parse().ok());
+    let number = value.to_str().and_then(decimal);
     number
         .filter(|n| *n <= MOST_CELLS)
         .ok_or(format!("--cells {value:?} is not a number from 0 to {MOST_CELLS}"))
+}
+
+fn seed(value: &OsStr) -> Result<u64, String> {
+    let number = value.to_str().and_then(|text| match text.strip_prefix("0x") {
+        Some(digits) if digits.bytes().all(|b| b.is_ascii_hexdigit()) => u64::from_str_radix(digits, 16).ok(),
+        Some(_) => None,
+        None => decimal(text),
+    });
+    number.ok_or(format!("--seed {value:?} is not a number below 2^64, in digits or in 0x and hex digits"))
 }
 
 /// `DOMAIN:LO-HI` or `DOMAIN:V`.
@@ -119,13 +132,13 @@ fn allowed(value: &OsStr) -> Result<(String, u32, u32), String> {
     let parsed = value.to_str().and_then(|text| {
         let (domain, versions) = text.rsplit_once(':')?;
         let (lowest, highest) = versions.split_once('-').unwrap_or((versions, versions));
-        Some((domain.to_string(), version(lowest)?, version(highest)?))
+        Some((domain.to_string(), decimal(lowest)?, decimal(highest)?))
     });
     parsed.ok_or(format!("--allow {value:?} is not of the form DOMAIN:LOWEST-HIGHEST, as in ai.onnx:7-21"))
 }
 
 /// Digits only: `parse` alone would take a sign.
-fn version(text: &str) -> Option<u32> {
+fn decimal<N: FromStr>(text: &str) -> Option<N> {
     Some(text).filter(|t| t.bytes().all(|b| b.is_ascii_digit())).and_then(|t| t.parse().ok())
 }
 
@@ -146,7 +159,7 @@ fn check(w: Words) -> Result<Command, String> {
     if w.rest.is_empty() {
         return Err("which model? Usage: onnx-gate check [OPTIONS] MODEL...".into());
     }
-    Ok(Command::Check(Check { operators, cells: w.cells, json: w.json, models: w.rest }))
+    Ok(Command::Check(Check { operators, cells: w.cells, seed: w.seed, json: w.json, models: w.rest }))
 }
 
 fn lists(w: Words) -> Result<Command, String> {

@@ -3,12 +3,9 @@ use crate::args::{Check, Operators};
 use crate::explain::{explain, Explanation, Given};
 use crate::text::Paint;
 use crate::{complain, input, json, report, text, DONE, REFUSED, WRONG};
-use onnx_gate::operators;
+use onnx_gate::{operators, Checked, Options};
 use std::ffi::OsStr;
 use std::io::{self, IsTerminal, Write};
-
-/// A field that holds a name has at least a tag, a length and a byte.
-const LEAST_NAME: usize = 3;
 
 /// How results are shown.
 struct Show {
@@ -76,27 +73,26 @@ fn warn_of_list(check: &Check, list: &[u8]) {
     }
 }
 
-/// The status and the lines for one file, or why it cannot be read.
+/// The status and the lines for one file, or why it cannot be judged.
 fn judged(check: &Check, list: &[u8], file: &OsStr, show: &Show) -> (u8, Result<Vec<String>, String>) {
     let model = match input::read(file) {
         Ok(model) => model,
         Err(why) => return (WRONG, Err(why)),
     };
     warn_of_size(file, &model);
-    let mut cells = Vec::new();
-    let count = check.cells.unwrap_or(model.len() / LEAST_NAME);
-    if cells.try_reserve_exact(count).is_err() {
-        return (WRONG, Err(format!("there is no memory for {count} cells")));
-    }
-    cells.resize(count, 0);
-    match onnx_gate::check(&model, list, &mut cells) {
+    let options = Options { cells: check.cells.unwrap_or(usize::MAX), seed: check.seed, ..Options::default() };
+    let Checked { answer, cells } = match options.check(&model, list) {
+        Ok(checked) => checked,
+        Err(why) => return (WRONG, Err(why.to_string())),
+    };
+    match answer {
         Ok(accepted) if show.json => (DONE, Ok(vec![json::accepted(&file.to_string_lossy(), accepted)])),
         Ok(accepted) => {
             let line = show.paint.good(&accepted.to_string());
             (DONE, Ok(vec![format!("{}: {line}", text::file(file))]))
         }
         Err(refusal) => {
-            let given = Given { model: &model, operators: list, cells: cells.len() };
+            let given = Given { model: &model, operators: list, cells };
             (REFUSED, Ok(refused(file, refusal, &explain(&given, refusal), show)))
         }
     }

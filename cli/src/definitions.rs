@@ -19,9 +19,10 @@ pub fn of(model: &[u8], name: &[u8]) -> Vec<usize> {
             if defines(model, kind, &f, stop, name) {
                 found.push(f.tag);
             }
-        }
-        if found.len() >= MOST {
-            break;
+            if found.len() == MOST {
+                open.clear();
+                break;
+            }
         }
     }
     found.sort_unstable();
@@ -57,5 +58,8 @@ mod tests {
         let m = crate::samples::bytes("08 08 42 02 10 0D 3A 0E 12 01 67 0A 09 0A 01 61 12 01 61 22 01 58");
         assert_eq!(of(&m, b"a"), [16]);
         assert!(of(&m, b"b").is_empty());
+        let node = [&[0x0A, 0x78], [0x12, 1, b'a'].repeat(40).as_slice()].concat();
+        let many = [&[0x3A, 0xF4, 1], node.repeat(2).as_slice()].concat();
+        assert_eq!((of(&many, b"a").len(), of(&many[..130], b"a").len()), (MOST, 0));
     }
 }

@@ -20,7 +20,7 @@ pub struct Window<'a> {
 }
 
 pub struct Explanation<'a> {
-    /// Absent where the fault is not in the model's fields: 7 and 8.
+    /// Absent where the fault is not in the model's fields: 7, 8 and 65.
     pub path: Option<String>,
     pub name: Option<&'a [u8]>,
     pub notes: Vec<String>,
@@ -35,7 +35,7 @@ pub struct Given<'a> {
 }
 
 pub fn explain<'a>(given: &Given<'a>, refusal: Refusal) -> Explanation<'a> {
-    if matches!(refusal.number, 7 | 8) {
+    if matches!(refusal.number, 7 | 8 | 65) {
         return Explanation { path: None, name: None, notes: notes::of_arguments(given, refusal), window: None };
     }
     let mut path = path::find(given.model, refusal.place);
@@ -123,7 +123,7 @@ mod tests {
         let e = explained(&model, 10, 0);
         assert_eq!((e.path.as_deref(), e.window.unwrap().field), (Some("model"), 0..0));
         assert_eq!(e.notes, ["ir_version is absent"]);
-        assert!(explained(&model, 7, 0).path.is_none());
+        assert!([7, 8, 65].iter().all(|number| explained(&model, *number, 0).path.is_none()));
     }
 
     /// Any number at any place of any bytes: an explanation never fails.
@@ -159,7 +159,7 @@ mod tests {
                     let at = r.below(model.len() as u64 + 1) as usize;
                     model.get_mut(at).into_iter().for_each(|b| *b = r.below(256) as u8);
                 }
-                let Err(refusal) = onnx_gate::check(&model, &list, &mut [0; 8]) else { continue };
+                let Err(refusal) = onnx_gate::check_with(&model, &list, &mut [0; 8]) else { continue };
                 met.insert(refusal.number);
                 let path = path::find(&model, refusal.place);
                 let found = path.exact || path.unreadable || lacks_a_field(refusal.number, &path);

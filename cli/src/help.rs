@@ -18,7 +18,7 @@ Options:
   -h, --help     print this, or the help of a command
   -V, --version  print the version
 
-Exit status: 0 all accepted, 1 some refused, 2 bad usage or an unreadable file.
+Exit status: 0 all accepted, 1 some refused, 2 bad usage or a file that cannot be judged.
 ";
 
 pub const CHECK: &str = "\
@@ -32,14 +32,17 @@ Options:
       --operators FILE       the operator list of the runtime, as `onnx-gate operators write` makes it
       --allow DOMAIN:LO-HI   versions of a domain that the runtime has, instead of a list; may stand again.
                              Without either: --allow ai.onnx:7-21 --allow ai.onnx.ml:1-5
-      --cells N              working cells, one for each name that is visible at once; without it there are
-                             as many as the model can need
+      --cells N              refuse a model, with 40, that has more than N names visible at once; without it there
+                             are as many working cells as the model needs
+      --seed N               how names are spread over the index, from 0 to 2^64 - 1, in digits or in 0x and hex
+                             digits: for runs that do the same work again. No answer depends on it. Without it a
+                             random one is drawn for each model, so that no file can be made to stall the check
       --json                 one JSON object on a line for each file
   -h, --help                 print this
   -V, --version              print the version
 
-Exit status: 0 all accepted, 1 some refused (an unsound list refuses every model), 2 bad usage or an
-unreadable file.
+Exit status: 0 all accepted, 1 some refused (an unsound list refuses every model), 2 bad usage, an unreadable
+file, or no memory for the names of a model.
 ";
 
 pub const OPERATORS: &str = "\
@@ -61,7 +64,8 @@ Exit status: 0 done, 1 the list is unsound, 2 bad usage or an unreadable file.
 ";
 
 pub const RULES: &str = "\
-Prints every refusal number with its name and its rule.
+Prints every refusal number with its name and its rule. 65 is for programs that lend the library cells of their
+own: this command always lends enough.
 
 Usage: onnx-gate rules
 ";

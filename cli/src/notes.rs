@@ -11,7 +11,7 @@ use onnx_gate::Refusal;
 /// How many definitions are named.
 const NAMED: usize = 3;
 
-/// For 7 and 8, which are not about the model's fields.
+/// For 7, 8 and 65, which are not about the model's fields.
 pub fn of_arguments(given: &Given, refusal: Refusal) -> Vec<String> {
     match (refusal.number, operators::read(given.operators)) {
         (8, Err(fault)) => vec![fault.to_string()],

@@ -5,8 +5,7 @@ fn main() -> Result<(), Box<dyn std::error::Error>> {
     let path = std::env::args().nth(1).ok_or("which model?")?;
     let model = std::fs::read(path)?;
     let list = operators::write(&[("ai.onnx", 7, 21), ("ai.onnx.ml", 1, 5)])?;
-    let mut cells = vec![0u32; 65_536]; // one for each name that is visible at once
-    match check(&model, &list, &mut cells) {
+    match check(&model, &list) {
         Ok(accepted) => println!("{accepted}"),
         Err(refusal) => println!("{refusal}: {}", refusal.explanation()),
     }

@@ -5,19 +5,24 @@
 //! ```
 //! let list = onnx_gate::operators::write(&[("ai.onnx", 7, 21)]).unwrap();
 //! let model = b"\x08\x08\x42\x02\x10\x0D\x3A\x0B\x12\x01g\x0A\x06\x12\x01a\x22\x01X";
-//! let mut cells = [0u32; 64]; // one for each name that is visible at once
-//! match onnx_gate::check(model, &list, &mut cells) {
+//! match onnx_gate::check(model, &list) {
 //!     Ok(accepted) => println!("{accepted}"),
 //!     Err(refusal) => println!("{refusal}: {}", refusal.explanation()),
 //! }
 //! ```
+//!
+//! `check` allocates as many cells as the model needs; `Options` bounds them. `check_indexed` and `check_with` work in
+//! the caller's cells and allocate nothing.
 
 pub mod operators;
 mod refusal;
 mod rules;
+mod sizing;
+mod skim;
 
 pub use refusal::Refusal;
 pub use rules::{rule, Rule, RULES};
+pub use sizing::{check, Checked, NoMemory, Options, MEMORY};
 
 use std::fmt;
 
@@ -63,11 +68,32 @@ extern "C" {
         cells: *mut u32,
         cells_length: usize,
     ) -> Answer;
+    fn onnx_gate_check_indexed(
+        model: *const u8,
+        model_length: usize,
+        operators: *const u8,
+        operators_length: usize,
+        cells: *mut u32,
+        cells_length: usize,
+        extra: *mut u32,
+        extra_length: usize,
+        seed: u64,
+    ) -> Answer;
     fn onnx_gate_show_name(model: *const u8, model_length: usize, start: u64, length: u64) -> Part;
 }
 
-/// Accepts or refuses `model` for a runtime that has `operators`. All cells are zero afterwards, whatever they held.
-pub fn check(model: &[u8], operators: &[u8], cells: &mut [u32]) -> Result<Accepted, Refusal> {
+impl Answer {
+    fn told(self) -> Result<Accepted, Refusal> {
+        match self.refusal {
+            0 => Ok(Accepted { nodes: self.nodes, names: self.names }),
+            number => Err(Refusal { number, place: self.place as usize }),
+        }
+    }
+}
+
+/// The check in the caller's cells, one for each name that may be visible at once, and with no index: its time grows
+/// with the square of the names. All cells are zero afterwards, whatever they held.
+pub fn check_with(model: &[u8], operators: &[u8], cells: &mut [u32]) -> Result<Accepted, Refusal> {
     // SAFETY: a Rattle slice is a pointer and a length, never null here. The function only reads the model and
     // the list, writes only the cells, keeps none of them, and has no precondition.
     let answer = unsafe {
@@ -80,10 +106,34 @@ pub fn check(model: &[u8], operators: &[u8], cells: &mut [u32]) -> Result<Accept
             cells.len(),
         )
     };
-    match answer.refusal {
-        0 => Ok(Accepted { nodes: answer.nodes, names: answer.names }),
-        number => Err(Refusal { number, place: answer.place as usize }),
-    }
+    answer.told()
+}
+
+/// The same answer for every `seed`, by an index in extra cells; refused with 65 where these are fewer than four times
+/// the cells. With `4 * cells.len() + 2 + 4 * (model.len() / 7)` of them the time is linear, as long as whoever makes
+/// the model does not know the seed. All cells of both kinds are zero afterwards, whatever they held.
+pub fn check_indexed(
+    model: &[u8],
+    operators: &[u8],
+    cells: &mut [u32],
+    extra: &mut [u32],
+    seed: u64,
+) -> Result<Accepted, Refusal> {
+    // SAFETY: as above; the function writes the extra cells too.
+    let answer = unsafe {
+        onnx_gate_check_indexed(
+            model.as_ptr(),
+            model.len(),
+            operators.as_ptr(),
+            operators.len(),
+            cells.as_mut_ptr(),
+            cells.len(),
+            extra.as_mut_ptr(),
+            extra.len(),
+            seed,
+        )
+    };
+    answer.told()
 }
 
 /// The part of `model` that starts at `start` and has `length` bytes, or the empty part where it does not fit.

@@ -102,7 +102,7 @@ pub fn read(list: &[u8]) -> Result<Vec<Entry>, ListFault> {
 
 /// Whether the proved library finds the list sound: it is asked about the empty model, which is never too large.
 pub fn is_sound(list: &[u8]) -> bool {
-    !matches!(crate::check(&[], list, &mut []), Err(r) if r.number == 8)
+    !matches!(crate::check_with(&[], list, &mut []), Err(r) if r.number == 8)
 }
 
 fn number(four: &[u8]) -> u32 {

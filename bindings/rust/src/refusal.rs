@@ -2,7 +2,7 @@
 use crate::rules::rule;
 use std::fmt;
 
-/// Why a model is refused, and where. The numbers are those of document 01.
+/// Why a model is refused, and where. The numbers are those of document 01, and 65.
 #[derive(Clone, Copy, Debug, PartialEq, Eq)]
 pub struct Refusal {
     pub number: u64,

@@ -1,4 +1,4 @@
-//! The refusal numbers of document 01, each with a name and a line for people.
+//! The refusal numbers of document 01, and 65 of document 02, each with a name and a line for people.
 
 /// A number that a model can be refused with.
 #[derive(Clone, Copy, Debug, PartialEq, Eq)]
@@ -13,7 +13,7 @@ const fn of(number: u64, name: &'static str, explanation: &'static str) -> Rule 
 }
 
 /// All numbers, in ascending order.
-pub const RULES: [Rule; 34] = [
+pub const RULES: [Rule; 35] = [
     of(1, "past-end", "a varint, value or length runs past the end of its message"),
     of(2, "tenth-byte", "the tenth byte of a varint is above 1"),
     of(3, "bad-tag", "not a tag: above 2^32 - 1, field number 0, or a wire type other than 0, 1, 2 and 5"),
@@ -48,6 +48,7 @@ pub const RULES: [Rule; 34] = [
     of(37, "no-shape", "a tensor type of the main graph must have a shape"),
     of(38, "negative-dim", "a dim_value is negative"),
     of(40, "cells-full", "more names are visible together than there are cells"),
+    of(65, "too-few-extra", "a program lent the indexed check fewer extra cells than four times its cells"),
 ];
 
 /// The rule with this number.

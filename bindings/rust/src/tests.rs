@@ -6,13 +6,51 @@ fn list() -> Vec<u8> {
     operators::write(&[("", 7, 21)]).unwrap()
 }
 
-/// The line for a model, given as hex.
-fn line(hex: &str, cells: usize) -> String {
-    let model: Vec<u8> = hex.split_whitespace().map(|b| u8::from_str_radix(b, 16).unwrap()).collect();
-    let mut cells = vec![0xDEAD_BEEF; cells];
-    let answer = check(&model, &list(), &mut cells);
+fn bytes(hex: &str) -> Vec<u8> {
+    hex.split_whitespace().map(|b| u8::from_str_radix(b, 16).unwrap()).collect()
+}
+
+/// The line for a model, given as hex: that of the plain check, and of the indexed one under each seed.
+fn line(hex: &str, count: usize) -> String {
+    let model = bytes(hex);
+    let mut cells = vec![0xDEAD_BEEF; count];
+    let answer = check_with(&model, &list(), &mut cells);
     assert!(cells.iter().all(|c| *c == 0), "cells are zero after every answer");
+    for seed in [0, 1, 0x0123_4567_89AB_CDEF, u64::MAX] {
+        for more in [0, 1, 2, 6, 1000] {
+            assert_eq!(indexed(&model, count, 4 * count + more, seed), answer, "{more} more, seed {seed}");
+        }
+    }
     answer.map_or_else(|r| r.to_string(), |a| a.to_string())
+}
+
+/// Each example as it is, and so many times with some bytes changed, the same ones in every run.
+pub fn damaged(times: usize) -> impl Iterator<Item = Vec<u8>> {
+    let mut state = 1u64;
+    let mut below = move |n: usize| {
+        state = state.wrapping_mul(6364136223846793005).wrapping_add(1442695040888963407);
+        (state >> 33) as usize % n
+    };
+    let files = std::fs::read_dir(concat!(env!("CARGO_MANIFEST_DIR"), "/../../examples")).unwrap();
+    let mut paths: Vec<_> = files.map(|file| file.unwrap().path()).collect();
+    paths.sort();
+    let rounds = paths.into_iter().flat_map(move |path| (0..=times).map(move |round| (path.clone(), round)));
+    rounds.map(move |(path, round)| {
+        let mut model = std::fs::read(path).unwrap();
+        for _ in 0..round.min(1 + round % 3) {
+            let at = below(model.len() + 1);
+            model.get_mut(at).into_iter().for_each(|byte| *byte = below(256) as u8);
+        }
+        model
+    })
+}
+
+/// The indexed check in cells that are not zero.
+fn indexed(model: &[u8], count: usize, extra: usize, seed: u64) -> Result<Accepted, Refusal> {
+    let (mut cells, mut extra) = (vec![0xDEAD_BEEF; count], vec![0xFFFF_FFFF; extra]);
+    let answer = check_indexed(model, &list(), &mut cells, &mut extra, seed);
+    assert!(cells.iter().chain(&extra).all(|c| *c == 0), "all are zero after every answer");
+    answer
 }
 
 #[test]
@@ -33,8 +71,23 @@ fn samples_of_document_01() {
 #[test]
 fn too_large_comes_first() {
     let model = vec![0; LARGEST_MODEL + 1];
-    assert_eq!(check(&model, &[], &mut []), Err(Refusal { number: 7, place: 0 }));
-    assert_eq!(check(&model[1..], &[], &mut []), Err(Refusal { number: 8, place: 0 }));
+    assert_eq!(check_with(&model, &[], &mut []), Err(Refusal { number: 7, place: 0 }));
+    assert_eq!(check_with(&model[1..], &[], &mut []), Err(Refusal { number: 8, place: 0 }));
+    assert_eq!(check(&model, &[]), Err(Refusal { number: 7, place: 0 }));
+    assert_eq!(check(&model[1..], &[]), Err(Refusal { number: 8, place: 0 }));
+    assert_eq!(check(&model[1..], &list()), Err(Refusal { number: 3, place: 0 }));
+}
+
+#[test]
+fn too_few_extra_cells_come_before_all() {
+    let too_few = Err(Refusal { number: 65, place: 0 });
+    let m1 = bytes("08 08 42 02 10 0D 3A 0B 12 01 67 0A 06 12 01 61 22 01 58");
+    for count in [1, 2, 9] {
+        assert_eq!(indexed(&m1, count, 4 * count - 1, 7), too_few);
+        assert_eq!(indexed(&m1, count, 4 * count, 7), Ok(Accepted { nodes: 1, names: 1 }));
+    }
+    assert_eq!(indexed(&m1, 3, 0, 7), too_few);
+    assert_eq!(indexed(&vec![0; LARGEST_MODEL + 1], 1, 3, 7), too_few);
 }
 
 #[test]
@@ -48,7 +101,7 @@ fn names_are_shown() {
 #[test]
 fn every_rule_is_said() {
     let numbers: Vec<u64> = RULES.iter().map(|r| r.number).collect();
-    let document = [1..=8, 10..=16, 20..=35, 37..=38, 40..=40];
+    let document = [1..=8, 10..=16, 20..=35, 37..=38, 40..=40, 65..=65];
     assert_eq!(numbers, document.into_iter().flatten().collect::<Vec<u64>>());
     assert!(RULES.iter().all(|r| !r.name.is_empty() && !r.explanation.is_empty() && !r.explanation.contains('\n')));
     let refusal: Box<dyn std::error::Error> = Box::new(Refusal { number: 30, place: 13 });

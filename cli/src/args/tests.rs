@@ -14,7 +14,7 @@ fn list_of(words: &str) -> Vec<u8> {
 #[test]
 fn a_check() {
     let Ok(Command::Check(c)) = parsed("check a.onnx --cells 5 --json -- --b.onnx") else { panic!() };
-    assert_eq!((c.cells, c.json), (Some(5), true));
+    assert_eq!((c.cells, c.seed, c.json), (Some(5), None, true));
     assert_eq!(c.models, ["a.onnx", "--b.onnx"]);
     assert_eq!(c.operators, Operators::List(operators::write(&DEFAULT).unwrap()));
 }
@@ -27,6 +27,21 @@ fn versions_that_are_allowed() {
 }
 
 #[test]
+fn seeds() {
+    for (word, seed) in [
+        ("0", 0),
+        ("007", 7),
+        ("0x0", 0),
+        ("0xfF", 255),
+        ("18446744073709551615", u64::MAX),
+        ("0xFFFFFFFFFFFFFFFF", u64::MAX),
+    ] {
+        let Ok(Command::Check(c)) = parsed(&format!("check --seed {word} m")) else { panic!("{word}") };
+        assert_eq!(c.seed, Some(seed), "{word}");
+    }
+}
+
+#[test]
 fn bad_usage_is_told() {
     for words in [
         "",
@@ -36,6 +51,19 @@ fn bad_usage_is_told() {
         "check --cells x m",
         "check --cells +1 m",
         "check --cells 99999999999 m",
+        "check --seed",
+        "check --seed= m",
+        "check --seed x m",
+        "check --seed +1 m",
+        "check --seed -1 m",
+        "check --seed 1.0 m",
+        "check --seed 0x m",
+        "check --seed 0x+1 m",
+        "check --seed 0X1 m",
+        "check --seed ff m",
+        "check --seed 18446744073709551616 m",
+        "check --seed 0x10000000000000000 m",
+        "operators show --seed 1 l",
         "check --nonsense m",
         "check --json=1 m",
         "check --allow ai.onnx m",

@@ -1,0 +1,140 @@
+//! The check with cells of its own: how many, and under a seed that nobody knows.
+use crate::skim::{skim, Need};
+use crate::{check_indexed, Accepted, Refusal, LARGEST_MODEL};
+use std::fmt;
+use std::hash::{BuildHasher, Hasher, RandomState};
+
+/// The most bytes that cells and extra cells take together, where nobody says otherwise. No model of `LARGEST_MODEL`
+/// bytes or less needs more than 601 MB, so that none is refused for it.
+pub const MEMORY: usize = 1 << 30;
+
+const CELL: usize = size_of::<u32>();
+
+/// A field that holds a visible name has at least a tag, a length and a byte.
+const LEAST_NAME: usize = 3;
+
+/// The bytes of an import, initializer, named node or attribute that is not refused before its name is kept, at least.
+const LEAST_ENTRY: usize = 7;
+
+/// Up to this size a model gets what any model of its size can need; a larger one is skimmed.
+const SMALL: usize = 4096 * LEAST_ENTRY;
+
+/// The most cells of a first try: a file that is refused early costs no more of them, however many names it holds.
+const FIRST: usize = 65_536;
+
+/// What cells are multiplied with after a 40. All tries before the last then have little more cells than it has.
+const GROWTH: usize = 8;
+
+const _: () = assert!(CELL * (5 * (LARGEST_MODEL / LEAST_NAME) + 2 + 4 * (LARGEST_MODEL / LEAST_ENTRY)) < MEMORY);
+
+/// What bounds a check, and its seed.
+#[derive(Clone, Copy, Debug, PartialEq, Eq)]
+pub struct Options {
+    /// The most names that may be visible at once. A model with more is refused with 40.
+    pub cells: usize,
+    /// The most bytes of cells and extra cells together, 20 for each name. A model with more names is refused with 40;
+    /// one with long lists of named things, 16 for each, takes longer where they do not fit.
+    pub memory: usize,
+    /// How names are spread over the index: no answer depends on it. Without one it is drawn from the system.
+    pub seed: Option<u64>,
+}
+
+impl Default for Options {
+    fn default() -> Self {
+        Options { cells: usize::MAX, memory: MEMORY, seed: None }
+    }
+}
+
+/// An answer, and how many cells it was given under. Only a 40 would be another one with more.
+#[derive(Clone, Copy, Debug, PartialEq, Eq)]
+pub struct Checked {
+    pub answer: Result<Accepted, Refusal>,
+    pub cells: usize,
+}
+
+/// The system has no memory for so many cells. Nothing is known of the model then.
+#[derive(Clone, Copy, Debug, PartialEq, Eq)]
+pub struct NoMemory {
+    pub cells: usize,
+}
+
+impl fmt::Display for NoMemory {
+    fn fmt(&self, f: &mut fmt::Formatter<'_>) -> fmt::Result {
+        write!(f, "there is no memory for {} cells", self.cells)
+    }
+}
+
+impl std::error::Error for NoMemory {}
+
+impl Options {
+    /// Accepts or refuses `model` for a runtime that has `operators`.
+    pub fn check(&self, model: &[u8], operators: &[u8]) -> Result<Checked, NoMemory> {
+        let seed = self.seed.unwrap_or_else(random);
+        let need = need(model);
+        let most = self.most(model.len());
+        let mut cells = need.names.min(FIRST).min(most);
+        loop {
+            let (mut own, mut extra) = (zeroed(cells)?, zeroed(self.extra(cells, need.lists))?);
+            let answer = check_indexed(model, operators, &mut own, &mut extra, seed);
+            match next(cells, need.names, most) {
+                Some(more) if matches!(answer, Err(refusal) if refusal.number == 40) => cells = more,
+                _ => return Ok(Checked { answer, cells }),
+            }
+        }
+    }
+
+    /// More cells than this are of no use to a model of this length, or are not allowed.
+    fn most(&self, length: usize) -> usize {
+        self.cells.min(length / LEAST_NAME).min(self.memory / CELL / 5)
+    }
+
+    /// Four for each cell, and as many for the names of lists as the memory has room for.
+    fn extra(&self, cells: usize, lists: usize) -> usize {
+        let left = self.memory / CELL - 5 * cells;
+        4 * cells + left.min(2 + 4 * lists)
+    }
+}
+
+/// Accepts or refuses `model` for a runtime that has `operators`. Cells are allocated as the model needs them, at most
+/// `MEMORY` bytes; names are found by an index under a random seed, so that no model can be made to stall it.
+///
+/// # Panics
+///
+/// Where the system has no memory for the cells. `Options::check` tells it instead.
+pub fn check(model: &[u8], operators: &[u8]) -> Result<Accepted, Refusal> {
+    Options::default().check(model, operators).unwrap_or_else(|why| panic!("{why}")).answer
+}
+
+fn need(model: &[u8]) -> Need {
+    let most = Need { names: model.len() / LEAST_NAME, lists: model.len() / LEAST_ENTRY };
+    if model.len() <= SMALL {
+        return most;
+    }
+    if model.len() > LARGEST_MODEL {
+        return Need::default();
+    }
+    let found = skim(model);
+    Need { names: found.names.min(most.names), lists: found.lists.min(most.lists) }
+}
+
+/// How many cells to try after `cells` were too few: as many as were counted, and should these not do, up to `most`.
+fn next(cells: usize, counted: usize, most: usize) -> Option<usize> {
+    let goal = if cells < counted { counted.min(most) } else { most };
+    Some(goal.min(cells.max(FIRST).saturating_mul(GROWTH))).filter(|n| *n > cells)
+}
+
+fn zeroed(count: usize) -> Result<Vec<u32>, NoMemory> {
+    let mut cells = Vec::new();
+    cells.try_reserve_exact(count).map_err(|_| NoMemory { cells: count })?;
+    cells.resize(count, 0);
+    Ok(cells)
+}
+
+/// A number that whoever made the model cannot know. `RandomState` has its keys from the system; unlike a read of
+/// /dev/urandom, it needs no file and no way to fail.
+fn random() -> u64 {
+    RandomState::new().build_hasher().finish()
+}
+
+#[cfg(test)]
+mod tests;

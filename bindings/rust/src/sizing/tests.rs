@@ -1,0 +1,128 @@
+use super::*;
+use crate::tests::damaged;
+use crate::{check_with, operators};
+
+/// A model with one node of so many outputs, of nine bytes each from byte 24 on.
+fn outputs(count: usize) -> Vec<u8> {
+    let mut node = b"\x22\x01X".to_vec();
+    for i in 0..count {
+        node.extend(format!("\x12\x07v{i:06x}").as_bytes());
+    }
+    let node = part(1, &node);
+    [&b"\x08\x08\x42\x02\x10\x0D"[..], &part(7, &[b"\x12\x01g", &node[..]].concat())].concat()
+}
+
+fn part(number: u8, contents: &[u8]) -> Vec<u8> {
+    let length = (0..5).map(|i| (contents.len() >> (7 * i)) as u8 & 0x7F | if i < 4 { 0x80 } else { 0 });
+    [number << 3 | 2].into_iter().chain(length).chain(contents.iter().copied()).collect()
+}
+
+fn list() -> Vec<u8> {
+    operators::write(&[("", 7, 21)]).unwrap()
+}
+
+fn under(options: Options, model: &[u8]) -> (String, usize) {
+    let checked = options.check(model, &list()).unwrap();
+    (checked.answer.map_or_else(|r| r.to_string(), |a| a.to_string()), checked.cells)
+}
+
+#[test]
+fn any_number_of_names() {
+    for count in [0, 1, 100, 3000, 4000, FIRST - 1, FIRST, FIRST + 1, 100_000] {
+        let model = outputs(count);
+        let accepted = Accepted { nodes: 1, names: count as u64 };
+        let expected = if count == 0 { Err(34) } else { Ok(accepted) };
+        assert_eq!(check(&model, &list()).map_err(|r| r.number), expected, "{count}");
+    }
+}
+
+/// Small and skimmed, with no limit and with few cells, the answer is that of the plain check.
+#[test]
+fn answers_are_the_plain_ones() {
+    let doc_string = part(6, &[0; SMALL]);
+    let (mut accepted, mut refused) = (0, std::collections::BTreeSet::new());
+    for model in damaged(40) {
+        for model in [&model, &[&model, &doc_string[..]].concat()] {
+            for cells in [model.len(), 3] {
+                let plain = check_with(model, &list(), &mut vec![0; cells]);
+                let options = Options { cells, ..Options::default() };
+                assert_eq!(options.check(model, &list()).unwrap().answer, plain, "{model:x?}");
+                accepted += usize::from(plain.is_ok());
+                refused.extend(plain.err().map(|r| r.number));
+            }
+        }
+    }
+    assert!(accepted > 30 && refused.len() > 25, "{accepted} {refused:?}");
+}
+
+#[test]
+fn limits_are_kept() {
+    let small = outputs(50);
+    let cells = |cells| Options { cells, seed: Some(3), ..Options::default() };
+    assert_eq!(under(cells(50), &small), ("accepted nodes 1 names 50".into(), 50));
+    assert_eq!(under(cells(49), &small), (format!("refused 40 at {}", 24 + 49 * 9), 49));
+    assert_eq!(under(cells(0), &small), ("refused 40 at 24".into(), 0));
+    let large = outputs(100_000);
+    assert_eq!(under(cells(100_000), &large), ("accepted nodes 1 names 100000".into(), 100_000));
+    assert_eq!(under(cells(99_999), &large), (format!("refused 40 at {}", 24 + 99_999 * 9), 99_999));
+}
+
+/// 20 bytes for a name are enough, and a byte less is one name less.
+#[test]
+fn memory_is_kept() {
+    for (model, count) in [(outputs(50), 50), (outputs(100_000), 100_000)] {
+        let memory = |memory| Options { memory, ..Options::default() };
+        assert_eq!(under(memory(20 * count), &model).0, format!("accepted nodes 1 names {count}"));
+        let full = (format!("refused 40 at {}", 24 + 9 * (count - 1)), count - 1);
+        assert_eq!(under(memory(20 * count - 1), &model), full);
+        assert_eq!(under(memory(0), &model), ("refused 40 at 24".into(), 0));
+    }
+    assert_eq!(zeroed(usize::MAX / CELL), Err(NoMemory { cells: usize::MAX / CELL }));
+    assert_eq!(zeroed(3), Ok(vec![0; 3]));
+}
+
+#[test]
+fn extra_cells_fit_the_memory() {
+    let options = Options { memory: 4 * 100, ..Options::default() };
+    assert_eq!(options.most(1_000_000), 20);
+    for (cells, lists, extra) in [(20, 9, 80), (19, 9, 81), (0, 3, 14), (0, 99, 100)] {
+        assert_eq!(options.extra(cells, lists), extra);
+    }
+    assert_eq!(Options::default().extra(10, 5), 62);
+}
+
+#[test]
+fn what_is_needed() {
+    assert_eq!(need(&[0; SMALL]), Need { names: SMALL / 3, lists: 4096 });
+    assert_eq!(need(&[0; SMALL + 1]), Need::default());
+    // attributes of no bytes are more than any judged list can hold
+    let mut hostile = part(7, &part(1, &[0x2A, 0].repeat(50_000)));
+    assert_eq!(need(&hostile).lists, hostile.len() / 7);
+    hostile.resize(LARGEST_MODEL + 1, 0);
+    assert_eq!(need(&hostile), Need::default());
+}
+
+/// All tries together have at most three times the cells of the last.
+#[test]
+fn tries_grow() {
+    for counted in [0, 1, FIRST, FIRST + 1, 8 * FIRST + 1, 1_000_000, LARGEST_MODEL / 3] {
+        let most = LARGEST_MODEL / 3;
+        let mut tries = vec![counted.min(FIRST)];
+        while let Some(cells) = next(tries[tries.len() - 1], counted, most).filter(|n| *n <= counted) {
+            tries.push(cells);
+        }
+        assert_eq!(tries.last(), Some(&counted));
+        assert!(tries.iter().sum::<usize>() <= 3 * counted && tries.len() <= 4, "{tries:?}");
+    }
+    // should the count be wrong, everything that can help is tried
+    assert_eq!((next(0, 0, 50), next(50, 50, 50), next(60_000, 60_000, 60_001)), (Some(50), None, Some(60_001)));
+}
+
+#[test]
+fn seeds_differ() {
+    assert_ne!(random(), random());
+    let model = outputs(3000);
+    for seed in [0, 1, u64::MAX] {
+        assert_eq!(under(Options { seed: Some(seed), ..Options::default() }, &model).0, "accepted nodes 1 names 3000");
+    }
+}
