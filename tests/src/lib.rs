@@ -6,6 +6,10 @@ pub mod compare;
 #[cfg(feature = "library")]
 pub mod gate;
 pub mod header;
+pub mod lending;
+#[cfg(feature = "library")]
+pub mod lent;
+pub mod library;
 pub mod models;
 pub mod oplist;
 pub mod parts;

@@ -5,6 +5,7 @@ use std::time::Instant;
 
 use gate_tests::checker::Verdict;
 use gate_tests::compare::{Failure, Outcome, Tally};
+use gate_tests::lending::{Tries, SEEDS, SIZES};
 use gate_tests::models::{self, Case};
 use gate_tests::rng::Rng;
 use gate_tests::rows;
@@ -40,8 +41,21 @@ fn main() -> ExitCode {
         println!("FAILED: never reached: {unmet:?} (few cases reach few numbers)");
         return ExitCode::FAILURE;
     }
+    if settings.only.is_none() && rare(&settings, &tally) {
+        return ExitCode::FAILURE;
+    }
     println!("ok: no disagreement");
     ExitCode::SUCCESS
+}
+
+/// Was a kind of call of the indexed check hardly made?
+fn rare(settings: &Settings, tally: &Tally) -> bool {
+    let (count, (size, seed)) = tally.rarest();
+    let few = count < settings.cases / 200;
+    if few {
+        println!("FAILED: only {count} calls with {} extra cells and seed {}", SIZES[size].0, SEEDS[seed].0);
+    }
+    few
 }
 
 fn settings() -> Result<Settings, String> {
@@ -88,12 +102,13 @@ fn generated(seed: u64, number: u64, tally: &mut Tally) -> Outcome {
 
 /// All models of one and two bytes: the wire's edges, whole.
 fn short_models(tally: &mut Tally) -> Outcome {
+    let mut rng = Rng::new(2);
     for first in 0..=255u8 {
         tally.cases += 1;
-        tally.verdict("one byte", &[first], &models::lists::L, 1)?;
+        tally.verdict("one byte", &[first], &models::lists::L, 1, Tries::Some(1, &mut rng))?;
         for second in 0..=255u8 {
             tally.cases += 1;
-            tally.verdict("two bytes", &[first, second], &models::lists::L, 0)?;
+            tally.verdict("two bytes", &[first, second], &models::lists::L, 0, Tries::Some(1, &mut rng))?;
         }
     }
     Ok(())
@@ -129,6 +144,9 @@ fn report(tally: &Tally, seconds: f64) {
     let per_second = tally.cases as f64 / seconds;
     println!("{} cases, {} verdicts in {seconds:.1} s ({per_second:.0} cases a second)", tally.cases, tally.verdicts);
     println!("{} bytes of generated models; {} runs of the runner, {} reads", tally.bytes, tally.runs, tally.reads);
+    let least = tally.rarest().0;
+    println!("{} calls of the indexed check, {} of them answered 65;", tally.indexed, tally.short);
+    println!("each size of extra cells with each seed at least {least} times");
     println!("verdicts by number (0: accepted):");
     for (number, count) in &tally.numbers {
         println!("{number:4} {count:9}");
