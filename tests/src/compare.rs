@@ -111,7 +111,7 @@ impl Tally {
     }
 
     /// One call of the indexed check, where the plain one has this verdict.
-    fn indexed(
+    pub(crate) fn indexed(
         &mut self,
         model: &[u8],
         list: &[u8],
@@ -171,7 +171,7 @@ fn counts_agree(run: &Run, choices: &[u64], nodes: u64, names: u64) -> Result<()
     Err(format!("accepted with {nodes} nodes, {names} names; {counted}"))
 }
 
-fn failure(label: &str, model: &[u8], list: &[u8], cells: usize, told: String) -> Box<Failure> {
+pub(crate) fn failure(label: &str, model: &[u8], list: &[u8], cells: usize, told: String) -> Box<Failure> {
     Box::new(Failure { label: label.into(), model: model.to_vec(), list: list.to_vec(), cells, told })
 }
 

@@ -3,6 +3,7 @@
 use std::process::ExitCode;
 use std::time::Instant;
 
+use gate_tests::aimed;
 use gate_tests::checker::Verdict;
 use gate_tests::compare::{Failure, Outcome, Tally};
 use gate_tests::lending::{Tries, SEEDS, SIZES};
@@ -81,6 +82,7 @@ fn run(settings: &Settings, tally: &mut Tally) -> Outcome {
     for row in rows::document().iter().chain(&rows::by_hand()) {
         tally.row(row)?;
     }
+    aimed_models(tally)?;
     short_models(tally)?;
     neighbours(tally)?;
     for row in rows::large() {
@@ -98,6 +100,17 @@ fn generated(seed: u64, number: u64, tally: &mut Tally) -> Outcome {
         failure.label = format!("case {number} of seed {seed}, {}", failure.label);
         failure
     })
+}
+
+/// Models aimed at the index: the small ones with each number of spare cells, the large ones with some.
+fn aimed_models(tally: &mut Tally) -> Outcome {
+    for row in aimed::small() {
+        tally.sweep(&row, 0..=60)?;
+    }
+    for row in aimed::crafted() {
+        tally.sweep(&row, [0, 1, 2, 2 + 4 * 500, 2 + 4 * 1_000].into_iter())?;
+    }
+    Ok(())
 }
 
 /// All models of one and two bytes: the wire's edges, whole.
