@@ -49,11 +49,13 @@ pub fn colliding(seed: u64, count: usize) -> Vec<String> {
     let aim = hash(base, b"t00000000");
     let mut names = Vec::with_capacity(count);
     for (head, middle) in triples().flat_map(|head| triples().map(move |middle| (head, middle))) {
-        let six = [head, middle].concat();
-        let so_far = (0..2).fold(9, |sum, k| (sum * base + digit(&six, k)) % PRIME);
+        let so_far = [head, middle].iter().fold(9, |sum, three| (sum * base + digit(three, 0)) % PRIME);
         let last = (aim + PRIME - so_far * base % PRIME) % PRIME;
-        let name = [&six[..], &last.to_le_bytes()[..3]].concat();
-        if last < 1 << 24 && identifier(&name) {
+        if last >= 1 << 24 {
+            continue;
+        }
+        let name = [&head[..], &middle, &last.to_le_bytes()[..3]].concat();
+        if identifier(&name) {
             names.push(String::from_utf8(name).expect("an identifier is ASCII"));
         }
         if names.len() == count {
