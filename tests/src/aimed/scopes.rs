@@ -6,7 +6,8 @@ use crate::models::proto::Tree;
 use crate::rows::Row;
 
 pub fn rows() -> Vec<Row> {
-    [bound_again(), bound_twice(), read_after(), lists_apart(), outside(), refilled(), half_refilled(), deep()].concat()
+    let few = [bound_again(), bound_twice(), read_after(), lists_apart(), deep()].concat();
+    [few, outside(), refilled(), earlier_place(), half_refilled()].concat()
 }
 
 /// What an ended body bound is free again: for a sibling, for the node itself, and after it.
@@ -96,6 +97,20 @@ fn refilled() -> Vec<Row> {
         rows.push(refused("a body's name, its place free", model(graph(nodes)), 30, (READ, stale, 0)));
         let twice = [ended()].into_iter().chain(binds(&inner)).chain([bind(stale)]);
         rows.push(refused("a body's names and one twice", model(graph(twice)), 23, (BOUND, stale, 2)));
+    }
+    rows
+}
+
+/// A name of an ended body bound anew in an earlier place: what is left of the body's own must not stand for it.
+fn earlier_place() -> Vec<Row> {
+    let inner = names('u', MANY);
+    let ended = || holder([graph(binds(&inner))]);
+    let mut rows = Vec::new();
+    for name in AGAIN.map(|at| inner[at].as_str()) {
+        let again = [ended(), bind(name), read(name), holder([graph([bind("v"), read(name)])])];
+        rows.push(accepted("a body's name in an earlier place", model(graph(again)), MANY + 6, MANY));
+        let twice = [ended(), bind(name), bind(name)];
+        rows.push(refused("in an earlier place, twice", model(graph(twice)), 23, (BOUND, name, 2)));
     }
     rows
 }
