@@ -20,7 +20,7 @@ pub fn csv(run: &Run) -> String {
         for nodes in NODES {
             eprintln!("{nodes} nodes, {}", if named { "named" } else { "unnamed" });
             let given = Given::new(chain(nodes, named), L.to_vec(), run.seed);
-            let smaller = before.map(|(taken, fewer)| (taken, (nodes / fewer).pow(2) as u32));
+            let smaller = before.map(|(taken, fewer)| (taken, (nodes * nodes / (fewer * fewer)) as u32));
             let m = measure(&given, smaller, run.onnx, run.plan);
             let plain = match &m.plain {
                 Plain::Run(times) => {
