@@ -8,9 +8,19 @@ use crate::models::Case;
 use crate::rng::Rng;
 use crate::rows::Row;
 
-/// Around the cells that the row needs, and none.
+/// None, around the fewest with which the row has its answer, and as many as it says. More cells never bring 40 back.
 fn cell_counts(row: &Row) -> Vec<usize> {
-    let mut counts = vec![0, row.cells.saturating_sub(1), row.cells, row.cells + 1];
+    let (mut low, mut high) = (0, row.cells);
+    while low < high {
+        let middle = (low + high) / 2;
+        if check(&row.model, &row.list, middle) == row.answer {
+            high = middle;
+        } else {
+            low = middle + 1;
+        }
+    }
+    let mut counts = vec![0, low.saturating_sub(1), low, low + 1, row.cells];
+    counts.sort_unstable();
     counts.dedup();
     counts
 }

@@ -23,9 +23,9 @@ pub struct Run<'a> {
 impl Run<'_> {
     /// A workload at a part of its size: 4 is a quarter.
     fn given(&self, workload: &Workload, part: usize) -> Given {
-        let made_for = if workload.other_seed { self.seed.rotate_left(17) ^ 0x6A09_E667_F3BC_C908 } else { self.seed };
-        let model = (workload.make)(workload.size.unwrap_or(part) / part, made_for);
-        Given::new(model, workload.operators(), self.seed)
+        let model = (workload.make)(workload.size.unwrap_or(part) / part, self.seed);
+        let other = self.seed.rotate_left(17) ^ 0x6A09_E667_F3BC_C908;
+        Given::new(model, workload.operators(), if workload.other_seed { other } else { self.seed })
     }
 }
 

@@ -15,7 +15,7 @@ pub struct Workload {
     pub size: Option<usize>,
     /// Does it use domains beside the default one?
     pub custom: bool,
-    /// Is it made for another seed than that which the check is given?
+    /// Is the check given another seed than that for which it is made?
     pub other_seed: bool,
 }
 
@@ -56,10 +56,7 @@ pub const WORKLOADS: [Workload; 17] = [
     of("hostile: one name of 10 MB", 10_000_000, |size, _| long_name(size)),
     of("hostile: 20,000 named nodes, one cell", CHAIN, |size, _| idle(size)),
     of("hostile: 20,000 names in one bucket, seed known", CHAIN, searches::crafted),
-    Workload {
-        other_seed: true,
-        ..of("hostile: 20,000 names in one bucket of another seed", CHAIN, searches::crafted)
-    },
+    Workload { other_seed: true, ..of("hostile: the same 20,000 names, another seed", CHAIN, searches::crafted) },
 ];
 
 pub const FLOAT: u64 = 1;
