@@ -10,24 +10,24 @@ LEFT, RIGHT, TOP, BOTTOM = 104, 704, 84, 520
 FONT = "font-family=\"system-ui, 'Segoe UI', Helvetica, Arial, sans-serif\""
 INK, FAINT, GRID = "#1f2328", "#59636e", "#e4e7eb"
 
-# column of the table, what it is called, colour (told apart by people who do not see red and green alike), mark
+# side, what it is called, colour (told apart by people who do not see red and green alike), mark, columns of the table, summed
 SIDES = [
-    ("proved", "proved check", "#0b62c4", "circle"),
-    ("rust", "Rust checker", "#d9480f", "square"),
-    ("parse", "protobuf parse alone", "#7a7f87", "triangle"),
-    ("checker", "onnx::checker, after it", "#1a7f4b", "diamond"),
+    ("plain", "plain check", "#7b3fb5", "triangle", ["plain"]),
+    ("indexed", "indexed check", "#0b62c4", "circle", ["indexed"]),
+    ("rust", "Rust checker", "#d9480f", "square", ["rust"]),
+    ("cpp", "parse + onnx::checker", "#1a7f4b", "diamond", ["parse", "checker"]),
 ]
 UNITS = [(1e-6, "µs"), (1e-3, "ms"), (1.0, "s")]
 
 
 def read(path):
-    """For each side and style the points (nodes, seconds). A side that was not installed has none."""
+    """For each side and style the points (nodes, seconds). What was not run or not installed has none."""
     lines = {}
     with open(path, newline="") as file:
         for row in csv.DictReader(file):
-            for side, *_ in SIDES:
-                if row[side]:
-                    point = (int(row["nodes"]), float(row[side]))
+            for side, *_, columns in SIDES:
+                if all(row[column] for column in columns):
+                    point = (int(row["nodes"]), sum(float(row[column]) for column in columns))
                     lines.setdefault((side, row["named"] == "1"), []).append(point)
     return lines
 
@@ -110,7 +110,7 @@ def curve(axes, line, color, shape, named):
 def legend(lines):
     """Beside the plot: each side with its two lines."""
     out, x, y = [], RIGHT + 28, TOP + 14
-    for side, name, color, shape in SIDES:
+    for side, name, color, shape, _ in SIDES:
         if (side, False) not in lines:
             out.append(text(x, y, f"{name}: not installed", color=FAINT))
             y += 40
@@ -129,13 +129,13 @@ def draw(lines):
     axes = Axes(lines)
     out = [
         f'<svg xmlns="http://www.w3.org/2000/svg" width="{WIDTH}" height="{HEIGHT}" viewBox="0 0 {WIDTH} {HEIGHT}" role="img">',
-        "<title>Time of the proved check, a Rust checker, the Protocol Buffers parse and onnx::checker against the number of nodes</title>",
+        "<title>Time of the two proved checks, a Rust checker, and the Protocol Buffers parse with onnx::checker against the number of nodes</title>",
         f'<rect width="{WIDTH}" height="{HEIGHT}" fill="#ffffff"/>',
         text(LEFT, 36, "Time against the number of nodes", size=20, extra='font-weight="600"'),
         text(LEFT, 60, "A chain of Relu nodes, each reading the one before. Both axes logarithmic.", color=FAINT),
     ]
     out += grid(axes)
-    for side, _, color, shape in reversed(SIDES):
+    for side, _, color, shape, _ in reversed(SIDES):
         for named in (False, True):
             if (side, named) in lines:
                 out += curve(axes, lines[side, named], color, shape, named)

@@ -1,9 +1,11 @@
-//! What is compared for each case: the library with the checker, the checker with the runner, and the checker with
-//! what the case was made to be.
+//! What is compared for each case: both checks of the library with the checker, the checker with the runner, and the
+//! checker with what the case was made to be.
 
 use std::collections::{BTreeMap, HashMap};
 
 use crate::checker::{check, refusal_numbers, Verdict};
+use crate::lending::{self, Combination, Lending, Tries};
+use crate::library::{indexed_agrees, indexed_answer, plain_agrees};
 use crate::models::Case;
 use crate::rng::Rng;
 use crate::rows::Row;
@@ -18,6 +20,10 @@ pub struct Tally {
     /// Verdicts asked for, and how often each number was the answer; 0 is an acceptance.
     pub verdicts: u64,
     pub numbers: BTreeMap<u64, u64>,
+    /// Calls of the indexed check, how many of them answered 65, and how often each kind of call was made.
+    pub indexed: u64,
+    pub short: u64,
+    pub combinations: BTreeMap<Combination, u64>,
     pub runs: u64,
     pub reads: u64,
 }
@@ -34,10 +40,19 @@ pub struct Failure {
 
 pub type Outcome = Result<(), Box<Failure>>;
 
+/// Calls of the indexed check for each call of the plain one in a generated case; rows are tried with every kind of call.
+const TRIES: usize = 2;
+
 impl Tally {
     /// The refusal numbers of document 01 that no comparison has met.
     pub fn never_met(&self) -> Vec<u64> {
         refusal_numbers().into_iter().filter(|number| !self.numbers.contains_key(number)).collect()
+    }
+
+    /// The kind of call of the indexed check that was made least often.
+    pub fn rarest(&self) -> (u64, Combination) {
+        let counted = lending::all().map(|kind| (self.combinations.get(&kind).copied().unwrap_or(0), kind));
+        counted.min().unwrap_or_default()
     }
 
     /// A generated case, at several numbers of cells, and on the runner.
@@ -55,7 +70,7 @@ impl Tally {
             }
         }
         for cells in cell_counts(most, rng) {
-            let verdict = self.verdict(&case.label, &case.model, &case.list, cells)?;
+            let verdict = self.verdict(&case.label, &case.model, &case.list, cells, Tries::Some(TRIES, rng))?;
             if !agrees_with_unbounded(verdict, most, cells) {
                 return at(cells, format!("with no bound on the cells {most:?}, with {cells} {verdict:?}"));
             }
@@ -66,7 +81,7 @@ impl Tally {
     /// A row with a known answer.
     pub fn row(&mut self, row: &Row) -> Outcome {
         self.cases += 1;
-        let verdict = self.verdict(&row.name, &row.model, &row.list, row.cells)?;
+        let verdict = self.verdict(&row.name, &row.model, &row.list, row.cells, Tries::All)?;
         if verdict == row.answer {
             return Ok(());
         }
@@ -74,15 +89,39 @@ impl Tally {
         Err(failure(&row.name, &row.model, &row.list, row.cells, told))
     }
 
-    /// The checker's verdict, which the library's must equal.
-    pub fn verdict(&mut self, label: &str, model: &[u8], list: &[u8], cells: usize) -> Result<Verdict, Box<Failure>> {
+    /// The checker's verdict, which that of the library must equal, plain and indexed.
+    pub fn verdict(
+        &mut self,
+        label: &str,
+        model: &[u8],
+        list: &[u8],
+        cells: usize,
+        tries: Tries,
+    ) -> Result<Verdict, Box<Failure>> {
         let verdict = check(model, list, cells);
         self.verdicts += 1;
         *self.numbers.entry(verdict.number()).or_default() += 1;
-        match library_agrees(model, list, cells, verdict) {
-            Ok(()) => Ok(verdict),
-            Err(told) => Err(failure(label, model, list, cells, told)),
+        let at = |told: String| failure(label, model, list, cells, told);
+        plain_agrees(model, list, cells, verdict).map_err(at)?;
+        for (kind, lending) in tries.lendings(cells, model.len()) {
+            *self.combinations.entry(kind).or_default() += 1;
+            self.indexed(model, list, cells, lending, verdict).map_err(at)?;
         }
+        Ok(verdict)
+    }
+
+    /// One call of the indexed check, where the plain one has this verdict.
+    pub(crate) fn indexed(
+        &mut self,
+        model: &[u8],
+        list: &[u8],
+        cells: usize,
+        lending: Lending,
+        plain: Verdict,
+    ) -> Result<(), String> {
+        self.indexed += 1;
+        self.short += u64::from(indexed_answer(plain, cells, lending) != plain);
+        indexed_agrees(model, list, cells, lending, plain)
     }
 
     fn demand_3(&mut self, model: &[u8], verdict: Verdict, rng: &mut Rng) -> Result<(), String> {
@@ -132,7 +171,7 @@ fn counts_agree(run: &Run, choices: &[u64], nodes: u64, names: u64) -> Result<()
     Err(format!("accepted with {nodes} nodes, {names} names; {counted}"))
 }
 
-fn failure(label: &str, model: &[u8], list: &[u8], cells: usize, told: String) -> Box<Failure> {
+pub(crate) fn failure(label: &str, model: &[u8], list: &[u8], cells: usize, told: String) -> Box<Failure> {
     Box::new(Failure { label: label.into(), model: model.to_vec(), list: list.to_vec(), cells, told })
 }
 
@@ -174,35 +213,6 @@ fn choice_lists(bodies: usize, rng: &mut Rng) -> Vec<Vec<u64>> {
         lists.push((0..count).map(|_| rng.below(4) as u64).collect());
     }
     lists
-}
-
-/// Cells on both sides of those that are lent; the library must leave them alone.
-#[cfg(feature = "library")]
-const GUARD: usize = 4;
-
-#[cfg(feature = "library")]
-fn library_agrees(model: &[u8], list: &[u8], cells: usize, expected: Verdict) -> Result<(), String> {
-    let garbage = |place: usize| (place as u32).wrapping_mul(0x9E37_79B1) | 1;
-    let mut buffer: Vec<u32> = (0..cells + 2 * GUARD).map(garbage).collect();
-    let answer = crate::gate::raw_check(model, list, &mut buffer[GUARD..GUARD + cells]);
-    let got = answer.verdict()?;
-    if got != expected {
-        return Err(format!("the checker says {expected:?}, the library {got:?}"));
-    }
-    if let Some(place) = buffer[GUARD..GUARD + cells].iter().position(|cell| *cell != 0) {
-        return Err(format!("after {got:?} cell {place} of {cells} is not zero"));
-    }
-    let guards = (0..GUARD).chain(GUARD + cells..cells + 2 * GUARD);
-    match guards.into_iter().find(|place| buffer[*place] != garbage(*place)) {
-        Some(place) => Err(format!("after {got:?} memory beside the {cells} cells changed, at {place}")),
-        None => Ok(()),
-    }
-}
-
-/// Without the library only the checker, the runner and the generator are compared.
-#[cfg(not(feature = "library"))]
-fn library_agrees(_: &[u8], _: &[u8], _: usize, _: Verdict) -> Result<(), String> {
-    Ok(())
 }
 
 #[cfg(test)]

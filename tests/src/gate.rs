@@ -2,7 +2,7 @@
 //!
 //! Rattle's `pub extern "C" fn` takes a `&[T]` or `&mut [T]` as a pointer and a length, two parameters in a row, and
 //! returns a `#[repr(C)]` struct by C's rules. So `onnx_gate_check(model: &[u8], list: &[u8], cells: &mut [u32])` has
-//! the six parameters below. An empty slice may have any pointer that is aligned and not null, as Rust's own has.
+//! the six parameters below, and the indexed check nine. An empty slice may have any pointer that is aligned and not null, as Rust's own has.
 
 use crate::checker::Verdict;
 
@@ -25,12 +25,41 @@ extern "C" {
         cells_ptr: *mut u32,
         cells_len: usize,
     ) -> Verdict4;
+    fn onnx_gate_check_indexed(
+        model_ptr: *const u8,
+        model_len: usize,
+        list_ptr: *const u8,
+        list_len: usize,
+        cells_ptr: *mut u32,
+        cells_len: usize,
+        extra_ptr: *mut u32,
+        extra_len: usize,
+        seed: u64,
+    ) -> Verdict4;
 }
 
 /// The library's whole answer, as it came.
 pub fn raw_check(model: &[u8], list: &[u8], cells: &mut [u32]) -> Verdict4 {
     // The three slices live through the call, and the library has no other way to reach memory of ours.
     unsafe { onnx_gate_check(model.as_ptr(), model.len(), list.as_ptr(), list.len(), cells.as_mut_ptr(), cells.len()) }
+}
+
+/// The same of the indexed check.
+pub fn raw_check_indexed(model: &[u8], list: &[u8], cells: &mut [u32], extra: &mut [u32], seed: u64) -> Verdict4 {
+    // The four slices live through the call, and the two that are written are two.
+    unsafe {
+        onnx_gate_check_indexed(
+            model.as_ptr(),
+            model.len(),
+            list.as_ptr(),
+            list.len(),
+            cells.as_mut_ptr(),
+            cells.len(),
+            extra.as_mut_ptr(),
+            extra.len(),
+            seed,
+        )
+    }
 }
 
 impl Verdict4 {

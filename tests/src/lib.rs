@@ -1,11 +1,16 @@
 //! Tests of the gate from outside: a checker and a runner written from document 01 alone, a generator of models,
 //! and the comparison of the proved library with them.
 
+pub mod aimed;
+pub mod buckets;
 pub mod checker;
 pub mod compare;
 #[cfg(feature = "library")]
 pub mod gate;
 pub mod header;
+pub mod lending;
+pub mod lent;
+pub mod library;
 pub mod models;
 pub mod oplist;
 pub mod parts;
@@ -13,4 +18,5 @@ pub mod rng;
 pub mod rows;
 pub mod runner;
 pub mod schema;
+pub mod sweeps;
 pub mod wire;

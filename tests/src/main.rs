@@ -3,8 +3,10 @@
 use std::process::ExitCode;
 use std::time::Instant;
 
+use gate_tests::aimed;
 use gate_tests::checker::Verdict;
 use gate_tests::compare::{Failure, Outcome, Tally};
+use gate_tests::lending::{Tries, SEEDS, SIZES};
 use gate_tests::models::{self, Case};
 use gate_tests::rng::Rng;
 use gate_tests::rows;
@@ -40,8 +42,21 @@ fn main() -> ExitCode {
         println!("FAILED: never reached: {unmet:?} (few cases reach few numbers)");
         return ExitCode::FAILURE;
     }
+    if settings.only.is_none() && rare(&settings, &tally) {
+        return ExitCode::FAILURE;
+    }
     println!("ok: no disagreement");
     ExitCode::SUCCESS
+}
+
+/// Was a kind of call of the indexed check hardly made?
+fn rare(settings: &Settings, tally: &Tally) -> bool {
+    let (count, (size, seed)) = tally.rarest();
+    let few = count < settings.cases / 200;
+    if few {
+        println!("FAILED: only {count} calls with {} extra cells and seed {}", SIZES[size].0, SEEDS[seed].0);
+    }
+    few
 }
 
 fn settings() -> Result<Settings, String> {
@@ -67,6 +82,7 @@ fn run(settings: &Settings, tally: &mut Tally) -> Outcome {
     for row in rows::document().iter().chain(&rows::by_hand()) {
         tally.row(row)?;
     }
+    aimed_models(tally)?;
     short_models(tally)?;
     neighbours(tally)?;
     for row in rows::large() {
@@ -86,14 +102,26 @@ fn generated(seed: u64, number: u64, tally: &mut Tally) -> Outcome {
     })
 }
 
+/// Models aimed at the index: the small ones with each number of spare cells, the large ones with some.
+fn aimed_models(tally: &mut Tally) -> Outcome {
+    for row in aimed::small() {
+        tally.sweep(&row, 0..=60)?;
+    }
+    for row in aimed::crafted() {
+        tally.sweep(&row, [0, 1, 2, 2 + 4 * 500, 2 + 4 * 1_000].into_iter())?;
+    }
+    Ok(())
+}
+
 /// All models of one and two bytes: the wire's edges, whole.
 fn short_models(tally: &mut Tally) -> Outcome {
+    let mut rng = Rng::new(2);
     for first in 0..=255u8 {
         tally.cases += 1;
-        tally.verdict("one byte", &[first], &models::lists::L, 1)?;
+        tally.verdict("one byte", &[first], &models::lists::L, 1, Tries::Some(1, &mut rng))?;
         for second in 0..=255u8 {
             tally.cases += 1;
-            tally.verdict("two bytes", &[first, second], &models::lists::L, 0)?;
+            tally.verdict("two bytes", &[first, second], &models::lists::L, 0, Tries::Some(1, &mut rng))?;
         }
     }
     Ok(())
@@ -129,6 +157,9 @@ fn report(tally: &Tally, seconds: f64) {
     let per_second = tally.cases as f64 / seconds;
     println!("{} cases, {} verdicts in {seconds:.1} s ({per_second:.0} cases a second)", tally.cases, tally.verdicts);
     println!("{} bytes of generated models; {} runs of the runner, {} reads", tally.bytes, tally.runs, tally.reads);
+    let least = tally.rarest().0;
+    println!("{} calls of the indexed check, {} of them answered 65;", tally.indexed, tally.short);
+    println!("each size of extra cells with each seed at least {least} times");
     println!("verdicts by number (0: accepted):");
     for (number, count) in &tally.numbers {
         println!("{number:4} {count:9}");

@@ -2,34 +2,47 @@
 //!
 //! `check_bench FOLDER LIBRARY full|quick [WORD]` prints the tables and writes FOLDER/sweep.csv; with a word it prints those
 //! of the workloads whose names contain it, and no more;
-//! `check_bench memory SIDE MODEL CELLS LIBRARY` is what it starts to measure the memory of one side.
+//! `check_bench crafted` prints what names made for a seed cost;
+//! `check_bench memory SIDE MODEL LIST CELLS EXTRA LIBRARY` is what it starts to measure the memory of one side.
 
 mod clock;
+mod crafted;
+mod given;
+mod lists;
 mod markdown;
 mod memory;
 mod onnx;
 mod report;
+mod searches;
+mod sweep;
 mod timing;
 mod workloads;
 
+use std::collections::hash_map::RandomState;
 use std::fs;
+use std::hash::{BuildHasher, Hasher};
 use std::path::Path;
 use std::process::ExitCode;
 use std::time::Duration;
 
+use memory::Lent;
 use onnx::Onnx;
 use report::Run;
 use timing::Plan;
 
-const FULL: Plan = Plan { runs: 21, least: 3, budget: Duration::from_secs(10) };
-const QUICK: Plan = Plan { runs: 5, least: 1, budget: Duration::from_secs(1) };
+const FULL: Plan = Plan { runs: 21, budget: Duration::from_secs(4) };
+const QUICK: Plan = Plan { runs: 5, budget: Duration::from_secs(1) };
 
 fn main() -> ExitCode {
     let words: Vec<String> = std::env::args().skip(1).collect();
     let words: Vec<&str> = words.iter().map(String::as_str).collect();
     let done = match words[..] {
-        ["memory", side, model, cells, library] => {
-            memory::report(side, model, cells, library).map(|kb| println!("{kb}"))
+        ["memory", side, model, list, cells, extra, library] => {
+            memory::report(side, model, &Lent { list, cells, extra }, library).map(|kb| println!("{kb}"))
+        }
+        ["crafted"] => {
+            println!("{}", crafted::rows(random()));
+            Ok(())
         }
         [folder, library, "full"] => all(folder, library, FULL, ""),
         [folder, library, "quick"] => all(folder, library, QUICK, ""),
@@ -46,19 +59,26 @@ fn main() -> ExitCode {
     }
 }
 
+/// A seed from the system: whoever made a model beforehand cannot have known it.
+fn random() -> u64 {
+    RandomState::new().build_hasher().finish()
+}
+
 fn all(folder: &str, library: &str, plan: Plan, word: &str) -> Result<(), String> {
     let onnx = Onnx::load(library);
     if let Err(told) = &onnx {
         println!("Without Protocol Buffers and onnx::checker (apt-get install libonnx-dev libprotobuf-dev): {told}\n");
     }
-    let run = Run { folder: Path::new(folder), onnx: onnx.as_ref().ok(), library, plan };
+    let run = Run { folder: Path::new(folder), onnx: onnx.as_ref().ok(), library, plan, seed: random() };
+    println!("Seed of the index, drawn for this run: {:#018x}.\n", run.seed);
     println!("{}", report::workloads(&run, word)?);
     if !word.is_empty() {
         return Ok(());
     }
-    let csv = report::sweep(&run);
+    println!("Names made to share a bucket, as outputs of a chain:\n\n{}", crafted::rows(run.seed));
+    let csv = sweep::csv(&run);
     let file = run.folder.join("sweep.csv");
     fs::write(&file, &csv).map_err(|error| format!("{}: {error}", file.display()))?;
-    println!("Time against the number of nodes in a chain:\n\n{}", report::sweep_table(&csv));
+    println!("Time against the number of nodes in a chain:\n\n{}", sweep::rows(&csv));
     Ok(())
 }

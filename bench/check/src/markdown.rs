@@ -5,6 +5,10 @@ use std::time::Duration;
 /// Where a side was not built.
 pub const MISSING: &str = "not installed";
 
+pub fn head(names: &[&str]) -> Vec<String> {
+    names.iter().map(|name| name.to_string()).collect()
+}
+
 /// The first row is the head. The columns in `words` stand left, all others right.
 pub fn table(rows: &[Vec<String>], words: &[usize]) -> String {
     let columns = rows.first().map_or(0, Vec::len);
@@ -68,7 +72,8 @@ pub fn time(taken: Duration) -> String {
     let (unit, scale) = match seconds {
         s if s >= 1.0 => ("s", 1.0),
         s if s >= 1e-3 => ("ms", 1e3),
-        _ => ("µs", 1e6),
+        s if s >= 1e-6 => ("µs", 1e6),
+        _ => ("ns", 1e9),
     };
     format!("{} {unit}", figures(seconds * scale))
 }

@@ -1,140 +1,165 @@
-//! The tables of one run.
+//! The tables of the workloads.
 
 use std::fs;
 use std::path::Path;
+use std::time::Duration;
 
-use crate::markdown::{count, megabytes, ratio, table, time, MISSING};
-use crate::memory;
+use crate::given::Given;
+use crate::markdown::{count, head, megabytes, ratio, table, time, MISSING};
+use crate::memory::{self, Lent};
 use crate::onnx::Onnx;
-use crate::timing::{measure, Measured, Plan, Times};
-use crate::workloads::{chain, WORKLOADS};
+use crate::timing::{alone, measure, Measured, Plain, Plan, Times};
+use crate::workloads::{Workload, WORKLOADS};
 
-/// What a run needs: where files go, the C++ side if it is there and its path, and how long to measure.
+/// What a run needs: where files go, the C++ side if it is there and its path, how long to measure, and the seed.
 pub struct Run<'a> {
     pub folder: &'a Path,
     pub onnx: Option<&'a Onnx>,
     pub library: &'a str,
     pub plan: Plan,
+    pub seed: u64,
 }
 
-const TIME_HEAD: [&str; 9] = [
-    "proved ÷ Rust",
-    "proved ÷ parse",
-    "proved ÷ (parse + onnx::checker)",
+impl Run<'_> {
+    /// A workload at a part of its size: 4 is a quarter.
+    fn given(&self, workload: &Workload, part: usize) -> Given {
+        let model = (workload.make)(workload.size.unwrap_or(part) / part, self.seed);
+        let other = self.seed.rotate_left(17) ^ 0x6A09_E667_F3BC_C908;
+        Given::new(model, workload.operators(), if workload.other_seed { other } else { self.seed })
+    }
+}
+
+const TIME_HEAD: [&str; 11] = [
+    "indexed ÷ Rust",
+    "indexed ÷ parse",
+    "indexed ÷ (parse + onnx::checker)",
+    "plain ÷ Rust",
     "workload",
     "bytes",
-    "proved check",
+    "indexed check",
+    "plain check",
     "Rust checker",
     "protobuf parse",
     "onnx::checker",
 ];
 
-const MEMORY_HEAD: [&str; 6] =
-    ["workload", "model", "proved check", "Rust checker", "protobuf parse", "parse + onnx::checker"];
+const GROWTH_HEAD: [&str; 8] =
+    ["workload", "at n", "at 2n", "at 4n", "2n ÷ n", "4n ÷ 2n", "of 4n, clearing", "cells and extra cells"];
 
-fn head(names: &[&str]) -> Vec<String> {
-    names.iter().map(|name| name.to_string()).collect()
+const MEMORY_HEAD: [&str; 7] =
+    ["workload", "model", "indexed check", "plain check", "Rust checker", "protobuf parse", "parse + onnx::checker"];
+
+const NONE: &str = "–";
+
+/// The indexed check at a quarter and at half of the size, and the time for clearing the cells of the whole.
+struct Growth {
+    parts: Option<(Duration, Duration)>,
+    clearing: Duration,
 }
 
-/// Both tables of the workloads whose names contain the word, and what onnx::checker has against any of them.
+/// The tables of the workloads whose names contain the word, and what onnx::checker has against any of them.
 pub fn workloads(run: &Run, word: &str) -> Result<String, String> {
-    let mut times = vec![head(&TIME_HEAD)];
-    let mut memory = vec![head(&MEMORY_HEAD)];
+    let (mut times, mut growths, mut memory) =
+        (vec![head(&TIME_HEAD)], vec![head(&GROWTH_HEAD)], vec![head(&MEMORY_HEAD)]);
     let mut told = String::new();
-    let file = run.folder.join("workload.onnx");
-    for workload in WORKLOADS.iter().filter(|workload| workload.name.contains(word)) {
+    let chosen: Vec<&Workload> = WORKLOADS.iter().filter(|workload| workload.name.contains(word)).collect();
+    if chosen.is_empty() {
+        return Err(format!("no workload's name contains {word:?}"));
+    }
+    for workload in chosen {
         eprintln!("{}", workload.name);
-        let model = (workload.make)();
-        let measured = measure(&model, run.onnx, run.plan);
-        times.push(time_row(workload.name, &measured));
-        fs::write(&file, &model).map_err(|error| format!("{}: {error}", file.display()))?;
-        drop(model);
-        memory.push(memory_row(run, workload.name, &file, &measured)?);
+        let (quarter, half) = parts(run, workload);
+        let given = run.given(workload, 1);
+        let measured = measure(&given, quarter.map(|(plain, _)| (plain, 16)), run.onnx, run.plan);
+        let indexed = quarter.map(|(_, indexed)| indexed).zip(half);
+        let growth = Growth { parts: indexed, clearing: alone(given.clearing(), short(run.plan)).best() };
+        times.push(time_row(workload.name, &given, &measured));
+        growths.push(growth_row(workload.name, &given, &growth, measured.indexed.best()));
+        memory.push(memory_row(run, workload.name, &given, &measured)?);
         if let Some(complaint) = &measured.told {
             told.push_str(&format!("- onnx::checker refuses \"{}\": {complaint}\n", workload.name));
         }
     }
-    // It is there when the loop ran at all.
-    let _ = fs::remove_file(&file);
     if run.onnx.is_some() && told.is_empty() {
         told.push_str("onnx::checker lets every one of these models pass.\n");
     }
-    let (times, memory) = (table(&times, &[3]), table(&memory, &[0]));
-    Ok(format!(
-        "Time, best run (median):\n\n{times}\n{told}\nPeak memory beside the model's own bytes, in MB:\n\n{memory}"
-    ))
+    let (times, growths, memory) = (table(&times, &[4]), table(&growths, &[0]), table(&memory, &[0]));
+    let growing = "The indexed check at a quarter of each workload (n), at half and at the whole:";
+    let peak = "Peak memory beside the model's own bytes, in MB:";
+    Ok(format!("Time, best run (median):\n\n{times}\n{told}\n{growing}\n\n{growths}\n{peak}\n\n{memory}"))
+}
+
+/// For what is beside the table.
+fn short(plan: Plan) -> Plan {
+    Plan { runs: plan.runs.min(9), budget: plan.budget / 4 }
+}
+
+/// At a quarter of the size the plain check, once, and the indexed one; at half the indexed one.
+fn parts(run: &Run, workload: &Workload) -> (Option<(Duration, Duration)>, Option<Duration>) {
+    if workload.size.is_none() {
+        return (None, None);
+    }
+    let quarter = run.given(workload, 4);
+    let plain = quarter.plain()();
+    let indexed = alone(quarter.indexed(), short(run.plan)).best();
+    let half = run.given(workload, 2);
+    (Some((plain, indexed)), Some(alone(half.indexed(), short(run.plan)).best()))
 }
 
 fn both(times: &Times) -> String {
     format!("{} ({})", time(times.best()), time(times.median()))
 }
 
-fn time_row(name: &str, m: &Measured) -> Vec<String> {
-    let proved = m.proved.best();
-    let mut row = vec![ratio(proved, m.rust.best())];
-    match &m.onnx {
-        Some((parse, checker)) => {
-            row.push(ratio(proved, parse.best()));
-            row.push(ratio(proved, parse.best() + checker.best()));
-        }
-        None => row.extend([MISSING, MISSING].map(String::from)),
-    }
-    row.extend([name.to_string(), count(m.bytes as u64), both(&m.proved), both(&m.rust)]);
-    match &m.onnx {
-        Some((parse, checker)) => row.extend([both(parse), both(checker)]),
-        None => row.extend([MISSING, MISSING].map(String::from)),
-    }
+fn time_row(name: &str, given: &Given, m: &Measured) -> Vec<String> {
+    let indexed = m.indexed.best();
+    let (beside, steps) = match &m.onnx {
+        Some((parse, checker)) => (
+            [ratio(indexed, parse.best()), ratio(indexed, parse.best() + checker.best())],
+            [both(parse), both(checker)],
+        ),
+        None => ([MISSING, MISSING].map(String::from), [MISSING, MISSING].map(String::from)),
+    };
+    let (plain_ratio, plain) = match &m.plain {
+        Plain::Run(times) => (ratio(times.best(), m.rust.best()), both(times)),
+        Plain::Quarter(taken) => (NONE.to_string(), format!("not run ({} at a quarter)", time(*taken))),
+    };
+    let mut row = vec![ratio(indexed, m.rust.best())];
+    row.extend(beside);
+    row.extend([plain_ratio, name.to_string(), count(given.model.len() as u64)]);
+    row.extend([both(&m.indexed), plain, both(&m.rust)]);
+    row.extend(steps);
     row
 }
 
-fn memory_row(run: &Run, name: &str, file: &Path, m: &Measured) -> Result<Vec<String>, String> {
-    let mut row = vec![name.to_string(), megabytes(m.bytes as u64 / 1024)];
+fn growth_row(name: &str, given: &Given, growth: &Growth, whole: Duration) -> Vec<String> {
+    let parts = match growth.parts {
+        Some((quarter, half)) => [time(quarter), time(half), time(whole), ratio(half, quarter), ratio(whole, half)],
+        None => [NONE.to_string(), NONE.to_string(), time(whole), NONE.to_string(), NONE.to_string()],
+    };
+    let lent = format!("{} + {}", count(given.cells as u64), count(given.extra as u64));
+    let mut row = vec![name.to_string()];
+    row.extend(parts);
+    row.extend([time(growth.clearing), lent]);
+    row
+}
+
+fn memory_row(run: &Run, name: &str, given: &Given, m: &Measured) -> Result<Vec<String>, String> {
+    let (file, list) = (run.folder.join("workload.onnx"), run.folder.join("workload.lst"));
+    fs::write(&file, &given.model).map_err(|error| format!("{}: {error}", file.display()))?;
+    fs::write(&list, &given.list).map_err(|error| format!("{}: {error}", list.display()))?;
+    let words = (list.display().to_string(), given.cells.to_string(), given.extra.to_string());
+    let lent = Lent { list: &words.0, cells: &words.1, extra: &words.2 };
+    let mut row = vec![name.to_string(), megabytes(given.model.len() as u64 / 1024)];
     for side in memory::SIDES {
-        let known = run.onnx.is_some() || matches!(side, "proved" | "rust");
-        row.push(match known {
-            true => megabytes(memory::measure(side, file, m.cells, run.library)?),
-            false => MISSING.to_string(),
+        let cpp = matches!(side, "parse" | "checker");
+        row.push(match (cpp && run.onnx.is_none(), side, &m.plain) {
+            (true, _, _) => MISSING.to_string(),
+            (_, "plain", Plain::Quarter(_)) => "not run".to_string(),
+            _ => megabytes(memory::measure(side, &file, &lent, run.library)?),
         });
     }
+    for used in [file, list] {
+        fs::remove_file(&used).map_err(|error| format!("{}: {error}", used.display()))?;
+    }
     Ok(row)
-}
-
-/// How many nodes the chains of the plot have.
-const SWEEP: [usize; 8] = [100, 200, 500, 1_000, 2_000, 5_000, 10_000, 20_000];
-
-/// Time against the number of nodes, in seconds: what bench/plot.py draws.
-pub fn sweep(run: &Run) -> String {
-    let mut out = String::from("nodes,named,bytes,proved,rust,parse,checker\n");
-    for named in [false, true] {
-        for nodes in SWEEP {
-            eprintln!("{nodes} nodes, {}", if named { "named" } else { "unnamed" });
-            let m = measure(&chain(nodes, named), run.onnx, run.plan);
-            let seconds = |times: &Times| format!("{:.9}", times.best().as_secs_f64());
-            let (parse, checker) = match &m.onnx {
-                Some((parse, checker)) => (seconds(parse), seconds(checker)),
-                None => Default::default(),
-            };
-            let (named, proved, rust) = (u8::from(named), seconds(&m.proved), seconds(&m.rust));
-            out.push_str(&format!("{},{named},{},{proved},{rust},{parse},{checker}\n", m.nodes, m.bytes));
-        }
-    }
-    out
-}
-
-/// The same as a table.
-pub fn sweep_table(csv: &str) -> String {
-    let mut rows =
-        vec![head(&["nodes", "names", "proved ÷ Rust", "proved check", "Rust checker", "parse + onnx::checker"])];
-    for line in csv.lines().skip(1) {
-        let cells: Vec<&str> = line.split(',').collect();
-        let seconds = |at: usize| cells[at].parse().ok().map(std::time::Duration::from_secs_f64);
-        let shown = |taken: Option<_>| taken.map_or(MISSING.to_string(), time);
-        let (proved, rust) = (seconds(3), seconds(4));
-        let onnx = seconds(5).zip(seconds(6)).map(|(parse, checker)| parse + checker);
-        let quotient = proved.zip(rust).map_or(String::new(), |(one, other)| ratio(one, other));
-        let nodes = count(cells[0].parse().unwrap_or(0));
-        let named = if cells[1] == "1" { "named" } else { "unnamed" };
-        rows.push(vec![nodes, named.to_string(), quotient, shown(proved), shown(rust), shown(onnx)]);
-    }
-    table(&rows, &[1])
 }

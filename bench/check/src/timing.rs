@@ -3,26 +3,23 @@
 use std::hint::black_box;
 use std::time::Duration;
 
-use gate_tests::checker::{check, Verdict};
-use gate_tests::gate::raw_check;
-use gate_tests::models::lists::L;
-
 use crate::clock::timed;
+use crate::given::Given;
 use crate::onnx::Onnx;
 
-/// How long to go on: `runs` of each side, fewer once a side has taken `budget`, but never below `least`.
+/// How long to go on: `runs` of each side, fewer once a side has taken `budget`.
 #[derive(Clone, Copy)]
 pub struct Plan {
     pub runs: usize,
-    pub least: usize,
     pub budget: Duration,
 }
 
 /// Shorter calls are repeated until one timing takes this long.
 const ONE_TIMING: Duration = Duration::from_millis(2);
-/// Before each timing of shorter calls stands one that is not timed: caches and heap are then as the side itself leaves
-/// them, not as the side before it did. In the heap that C++ leaves behind, Rust's first call takes half as long again.
-const WARMED: Duration = Duration::from_millis(500);
+/// Longer calls are made once.
+const ONCE: Duration = Duration::from_secs(1);
+/// The plain check is not run where it would take longer, by the square of what it took at a smaller size.
+pub const CAP: Duration = Duration::from_secs(10);
 
 #[derive(Clone, Default)]
 pub struct Times(Vec<Duration>);
@@ -39,12 +36,16 @@ impl Times {
     }
 }
 
+/// The plain check, or how long it took at a quarter of the size.
+pub enum Plain {
+    Run(Times),
+    Quarter(Duration),
+}
+
 /// What was measured of one model. `told` is what onnx::checker has against it, if it has anything.
 pub struct Measured {
-    pub bytes: usize,
-    pub nodes: u64,
-    pub cells: usize,
-    pub proved: Times,
+    pub indexed: Times,
+    pub plain: Plain,
     pub rust: Times,
     pub onnx: Option<(Times, Times)>,
     pub told: Option<String>,
@@ -54,24 +55,35 @@ pub struct Measured {
 struct Side<'a> {
     call: Box<dyn FnMut() -> [Duration; 2] + 'a>,
     calls: u32,
-    warmed: bool,
+    once: bool,
     spent: Duration,
     times: [Times; 2],
 }
 
 impl<'a> Side<'a> {
-    /// The first call is not counted: it warms the caches, and says how often to call for one timing.
+    /// The first call is not counted: it warms the caches, and says how often to call for one timing. A long one is
+    /// counted, and the only one.
     fn new(call: impl FnMut() -> [Duration; 2] + 'a) -> Side<'a> {
         let mut call = Box::new(call);
-        let first: Duration = call().iter().sum();
+        let taken = call();
+        let first: Duration = taken.iter().sum();
         let calls = (ONE_TIMING.as_nanos() / first.as_nanos().max(1)).clamp(1, 10_000) as u32;
-        Side { call, calls, warmed: first < WARMED, spent: Duration::ZERO, times: Default::default() }
+        let once = first > ONCE;
+        let times = taken.map(|step| Times(if once { vec![step] } else { Vec::new() }));
+        Side { call, calls, once, spent: Duration::ZERO, times }
     }
 
-    fn run(&mut self) {
-        if self.warmed {
-            (self.call)();
+    fn of(mut call: impl FnMut() -> Duration + 'a) -> Side<'a> {
+        Side::new(move || [call(), Duration::ZERO])
+    }
+
+    /// Before the timing stands a call that is not timed: caches and heap are then as the side itself leaves them, not
+    /// as the side before it did. In the heap that C++ leaves behind, Rust's first call takes half as long again.
+    fn run(&mut self, plan: Plan) {
+        if self.once || self.spent >= plan.budget {
+            return;
         }
+        (self.call)();
         let mut sums = [Duration::ZERO; 2];
         for _ in 0..self.calls {
             let taken = (self.call)();
@@ -82,40 +94,45 @@ impl<'a> Side<'a> {
             times.0.push(sum / self.calls);
         }
     }
-}
 
-/// The nodes and names that the Rust checker counts; each call of the proved check must count the same.
-fn accepted(model: &[u8]) -> (u64, usize) {
-    let Verdict::Accepted { nodes, names } = check(model, &L, usize::MAX) else {
-        panic!("a workload is refused: {:?}", check(model, &L, usize::MAX));
-    };
-    (nodes, names as usize)
-}
-
-/// Times all sides in turn: round after round, each side once.
-pub fn measure(model: &[u8], onnx: Option<&Onnx>, plan: Plan) -> Measured {
-    let (nodes, names) = accepted(model);
-    let mut cells = vec![0; names];
-    let proved = Side::new(move || {
-        let (taken, answer) = timed(|| raw_check(black_box(model), &L, &mut cells));
-        assert_eq!((answer.refusal, answer.nodes, answer.names), (0, nodes, names as u64));
-        [taken, Duration::ZERO]
-    });
-    let rust = Side::new(move || [timed(|| black_box(check(black_box(model), &L, names))).0, Duration::ZERO]);
-    let mut sides = vec![proved, rust];
-    sides.extend(onnx.map(|onnx| Side::new(move || parse_and_check(onnx, model))));
-    for round in 0..plan.runs {
-        for side in &mut sides {
-            if round < plan.least || side.spent < plan.budget {
-                side.run();
-            }
-        }
+    fn only(self) -> Times {
+        let [times, _] = self.times;
+        times
     }
-    let mut times = sides.into_iter().map(|side| side.times);
-    let mut next = || times.next().map(|[first, second]| (first, second));
-    let (proved, rust) = (next().unwrap_or_default().0, next().unwrap_or_default().0);
-    let told = onnx.and_then(|onnx| complaint(onnx, model));
-    Measured { bytes: model.len(), nodes, cells: names, proved, rust, onnx: next(), told }
+}
+
+/// One side alone.
+pub fn alone<'a>(call: impl FnMut() -> Duration + 'a, plan: Plan) -> Times {
+    let mut side = Side::of(call);
+    (0..plan.runs).for_each(|_| side.run(plan));
+    side.only()
+}
+
+/// Times all sides in turn: round after round, each side once. `smaller` is how long the plain check took on a smaller
+/// model, and how much longer it would take on this one by the square.
+pub fn measure(given: &Given, smaller: Option<(Duration, u32)>, onnx: Option<&Onnx>, plan: Plan) -> Measured {
+    let skipped = smaller.filter(|(taken, times)| *taken * *times > CAP);
+    let mut indexed = Side::of(given.indexed());
+    let mut rust = Side::of(given.rust());
+    let mut plain = skipped.is_none().then(|| Side::of(given.plain()));
+    let mut cpp = onnx.map(|onnx| Side::new(move || parse_and_check(onnx, &given.model)));
+    for _ in 0..plan.runs {
+        for side in [Some(&mut indexed), Some(&mut rust), cpp.as_mut()].into_iter().flatten() {
+            side.run(plan);
+        }
+        // It would take most of the time, and differs from the others by far.
+        plain.iter_mut().for_each(|side| side.run(Plan { budget: plan.budget / 8, ..plan }));
+    }
+    let plain = match (plain, skipped) {
+        (Some(side), _) => Plain::Run(side.only()),
+        (None, taken) => Plain::Quarter(taken.unwrap_or_default().0),
+    };
+    let onnx_times = cpp.map(|side| {
+        let [parse, checker] = side.times;
+        (parse, checker)
+    });
+    let told = onnx.and_then(|onnx| complaint(onnx, &given.model));
+    Measured { indexed: indexed.only(), plain, rust: rust.only(), onnx: onnx_times, told }
 }
 
 /// The times of the parse and of the checker; freeing the parsed model is no part of either.

@@ -1,40 +1,84 @@
 //! The models that are measured. The proved check accepts each, and they are made so that onnx::checker can too:
 //! operators of version 13 with the inputs and attributes they ask for.
 
+use gate_tests::models::lists::{self, Entry};
 use gate_tests::models::proto::{put_varint, Item, Tree, Value};
 use gate_tests::schema::Message;
 
+use crate::searches;
+
+/// A model by its size, whatever the size counts. Of a size it has a half and a quarter, to see how the time grows.
 pub struct Workload {
     pub name: &'static str,
-    pub make: fn() -> Vec<u8>,
+    pub make: fn(usize, u64) -> Vec<u8>,
+    /// None: it has one size.
+    pub size: Option<usize>,
+    /// Does it use domains beside the default one?
+    pub custom: bool,
+    /// Is the check given another seed than that for which it is made?
+    pub other_seed: bool,
 }
 
 const CHAIN: usize = 20_000;
 
-pub const WORKLOADS: [Workload; 9] = [
-    Workload { name: "small model, 6 nodes", make: small },
-    Workload { name: "chain of 20,000 nodes, unnamed", make: || chain(CHAIN, false) },
-    Workload { name: "chain of 20,000 nodes, named", make: || chain(CHAIN, true) },
-    Workload { name: "wide: 4,000 branches with weights into one sum", make: || wide(4_000) },
-    Workload { name: "nested to depth 8, 20 towers of 254 graphs", make: || nested(20) },
-    Workload { name: "one initializer of 50 MB raw data", make: || heavy(50_000_000) },
-    Workload { name: "hostile: 4,000,000 unknown fields", make: || unknown(4_000_000) },
-    Workload { name: "hostile: one name of 10 MB", make: || long_name(10_000_000) },
-    Workload { name: "hostile: 20,000 named nodes, one cell", make: || idle(CHAIN) },
+const fn of(name: &'static str, size: usize, make: fn(usize, u64) -> Vec<u8>) -> Workload {
+    Workload { name, make, size: Some(size), custom: false, other_seed: false }
+}
+
+impl Workload {
+    const fn custom(self) -> Workload {
+        Workload { custom: true, ..self }
+    }
+
+    /// The operator list: L of document 01, and if need be the custom domains.
+    pub fn operators(&self) -> Vec<u8> {
+        let custom = if self.custom { &searches::CUSTOM[..] } else { &[] };
+        let domains = std::iter::once(&"").chain(custom);
+        let entries = domains.map(|domain| Entry { domain: domain.as_bytes().to_vec(), lowest: 7, highest: 21 });
+        lists::encode(&entries.collect::<Vec<_>>())
+    }
+}
+
+pub const WORKLOADS: [Workload; 17] = [
+    Workload { size: None, ..of("small model, 6 nodes", 0, |_, _| small()) },
+    of("chain of 20,000 nodes, unnamed", CHAIN, |size, _| chain(size, false)),
+    of("chain of 20,000 nodes, named", CHAIN, |size, _| chain(size, true)),
+    of("chain of 20,000 nodes, names of 60 bytes", CHAIN, searches::long_names),
+    of("wide: 4,000 branches with weights into one sum", 4_000, |size, _| wide(size)),
+    of("4,000 inputs with defaults", 4_000, searches::defaults),
+    of("16,000 inputs with defaults", 16_000, searches::defaults),
+    of("nested to depth 8, 20 towers of 254 graphs", 20, |size, _| nested(size)),
+    of("20,000 nodes with a body that binds a name", CHAIN, searches::bodies).custom(),
+    of("20,000 attributes in one node", CHAIN, searches::attributes).custom(),
+    of("one initializer of 50 MB raw data", 50_000_000, |size, _| heavy(size as u64)),
+    of("hostile: 4,000,000 unknown fields", 4_000_000, |size, _| unknown(size)),
+    of("hostile: 10,000 nodes, 10,000 unknown fields among imports", 10_000, searches::imports).custom(),
+    of("hostile: one name of 10 MB", 10_000_000, |size, _| long_name(size)),
+    of("hostile: 20,000 named nodes, one cell", CHAIN, |size, _| idle(size)),
+    of("hostile: 20,000 names in one bucket, seed known", CHAIN, searches::crafted),
+    Workload { other_seed: true, ..of("hostile: the same 20,000 names, another seed", CHAIN, searches::crafted) },
 ];
 
-const FLOAT: u64 = 1;
+pub const FLOAT: u64 = 1;
 const INT: u64 = 2;
-const GRAPH: u64 = 5;
+pub const GRAPH: u64 = 5;
 const BOOL: u64 = 9;
 
 fn model(graph: Tree) -> Vec<u8> {
-    let import = Tree::new(Message::OperatorSetId).text(1, "").number(2, 13);
-    Tree::new(Message::Model).number(1, 8).tree(8, import).tree(7, graph).encode()
+    model_with(&[], graph)
+}
+
+/// A model that imports the default domain and these.
+pub fn model_with(domains: &[&str], graph: Tree) -> Vec<u8> {
+    let mut model = Tree::new(Message::Model).number(1, 8);
+    for domain in std::iter::once(&"").chain(domains) {
+        model.push(8, Value::Tree(Tree::new(Message::OperatorSetId).text(1, domain).number(2, 13)));
+    }
+    model.tree(7, graph).encode()
 }
 
 /// An input or output with its element type and its sizes.
-fn value_info(name: &str, element: u64, sizes: &[u64]) -> Tree {
+pub fn value_info(name: &str, element: u64, sizes: &[u64]) -> Tree {
     let mut shape = Tree::new(Message::Shape);
     for &size in sizes {
         shape.push(1, Value::Tree(Tree::new(Message::Dimension).number(1, size)));
@@ -43,7 +87,7 @@ fn value_info(name: &str, element: u64, sizes: &[u64]) -> Tree {
     Tree::new(Message::ValueInfo).text(1, name).tree(2, Tree::new(Message::Type).tree(1, tensor))
 }
 
-fn node(operator: &str, inputs: &[&str], output: &str) -> Tree {
+pub fn node(operator: &str, inputs: &[&str], output: &str) -> Tree {
     let mut node = Tree::new(Message::Node);
     for input in inputs {
         node = node.text(1, input);
@@ -52,7 +96,7 @@ fn node(operator: &str, inputs: &[&str], output: &str) -> Tree {
 }
 
 /// Floats as raw data; field 1 of a tensor is its sizes.
-fn weights(name: &str, sizes: &[u64]) -> Tree {
+pub fn weights(name: &str, sizes: &[u64]) -> Tree {
     let mut tensor = Tree::new(Message::Tensor);
     for &size in sizes {
         tensor = tensor.number(1, size);
@@ -61,7 +105,7 @@ fn weights(name: &str, sizes: &[u64]) -> Tree {
     tensor.number(2, FLOAT).text(8, name).text(9, vec![0x3d; bytes])
 }
 
-fn int_attribute(name: &str, value: u64) -> Tree {
+pub fn int_attribute(name: &str, value: u64) -> Tree {
     Tree::new(Message::Attribute).text(1, name).number(3, value).number(20, INT)
 }
 
@@ -87,18 +131,22 @@ fn small() -> Vec<u8> {
 
 /// Nodes that each read the output of the one before.
 pub fn chain(nodes: usize, named: bool) -> Vec<u8> {
+    chain_of(&(0..nodes).map(|at| format!("value_{at}")).collect::<Vec<_>>(), named)
+}
+
+/// The same with these outputs.
+pub fn chain_of(outputs: &[String], named: bool) -> Vec<u8> {
     let mut graph = Tree::new(Message::Graph).text(2, "chain").tree(11, value_info("x", FLOAT, &[1]));
-    let mut last = "x".to_string();
-    for at in 0..nodes {
-        let output = format!("value_{at}");
-        let mut relu = node("Relu", &[&last], &output);
+    let mut last = "x";
+    for (at, output) in outputs.iter().enumerate() {
+        let mut relu = node("Relu", &[last], output);
         if named {
             relu = relu.text(3, format!("node_{at}"));
         }
         graph.push(1, Value::Tree(relu));
         last = output;
     }
-    model(graph.tree(12, value_info(&last, FLOAT, &[1])))
+    model(graph.tree(12, value_info(last, FLOAT, &[1])))
 }
 
 /// Branches from one input, each with weights of its own, joined in one node.
@@ -155,15 +203,20 @@ fn heavy(bytes: u64) -> Vec<u8> {
     model(graph.tree(12, value_info("y", FLOAT, &[bytes / 4])))
 }
 
-/// One node among fields that nothing names: numbers, in the graph, ten bytes each and ever new.
-fn unknown(fields: u64) -> Vec<u8> {
+/// Fields that nothing names: numbers, ten bytes each and ever new.
+pub fn unknown_fields(count: usize) -> Vec<u8> {
     let mut bytes = Vec::new();
-    for at in 0..fields {
+    for at in 0..count as u64 {
         put_varint(&mut bytes, (100 + at % 1_000) << 3, 0);
         put_varint(&mut bytes, 1 << 50 | at, 0);
     }
+    bytes
+}
+
+/// One node among such fields, in the graph.
+fn unknown(fields: usize) -> Vec<u8> {
     let mut graph = Tree::new(Message::Graph).text(2, "unknown").tree(1, node("Relu", &["x"], "y"));
-    graph.items.push(Item::raw(bytes));
+    graph.items.push(Item::raw(unknown_fields(fields)));
     model(graph.tree(11, value_info("x", FLOAT, &[1])).tree(12, value_info("y", FLOAT, &[1])))
 }
 

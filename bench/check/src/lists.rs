@@ -1,0 +1,39 @@
+//! How many names of lists a model has open at once: so many records of four cells the index can use beside the visible names.
+
+use gate_tests::parts::{all, first};
+use gate_tests::wire::{fields, Field, BYTES};
+
+/// Imports with a domain, initializers of the main graph, named nodes of open graphs and attributes of open nodes.
+pub fn open_at_once(model: &[u8]) -> usize {
+    let whole = Field { place: 0, number: 0, kind: BYTES, value: 0, start: 0, end: model.len() };
+    let imports = all(model, whole, 8).filter(|import| holds(model, *import, 1)).count();
+    let Some(graph) = first(model, whole, 7) else {
+        return imports;
+    };
+    imports + all(model, graph, 5).count() + in_graph(model, graph)
+}
+
+fn holds(model: &[u8], message: Field, number: u32) -> bool {
+    first(model, message, number).is_some_and(|field| field.start < field.end)
+}
+
+/// The most in this graph and below, at any of its nodes.
+fn in_graph(model: &[u8], graph: Field) -> usize {
+    let (mut named, mut most) = (0, 0);
+    for node in all(model, graph, 1) {
+        named += usize::from(holds(model, node, 3));
+        most = most.max(named + in_node(model, node));
+    }
+    most
+}
+
+fn in_node(model: &[u8], node: Field) -> usize {
+    let (mut attributes, mut most) = (0, 0);
+    for attribute in all(model, node, 5) {
+        attributes += 1;
+        let bodies = fields(model, attribute.start, attribute.end).filter(|field| matches!(field.number, 6 | 11));
+        let below = bodies.map(|body| in_graph(model, body)).max().unwrap_or(0);
+        most = most.max(attributes + below);
+    }
+    most
+}

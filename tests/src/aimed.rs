@@ -1,0 +1,69 @@
+//! Models aimed at the index: at names that come, go and come again, at lists that it remembers only in part, and at names
+//! that share a bucket. The answer of each is worked out by hand; none may depend on how the extra cells are laid out.
+
+mod attributes;
+mod crafted;
+mod defaults;
+mod imports;
+mod nodes;
+mod parts;
+mod scopes;
+
+use crate::checker::Verdict;
+use crate::models::lists::L;
+use crate::rows::Row;
+
+pub use crafted::{crafted, SEED};
+
+/// Small ones, for every number of extra cells from `4n` to `4n + 60`.
+pub fn small() -> Vec<Row> {
+    [scopes::rows(), nodes::rows(), attributes::rows(), defaults::rows(), imports::rows(), crafted::few()].concat()
+}
+
+/// So many names in a list: more than the smaller sizes of extra cells have room for.
+const MANY: usize = 24;
+
+/// Which of many names comes again: the first, some on each side of where a small memory ends, the last.
+const AGAIN: [usize; 6] = [0, 1, 6, 7, 13, MANY - 1];
+
+fn accepted(name: &str, model: Vec<u8>, nodes: usize, names: usize) -> Row {
+    let answer = Verdict::Accepted { nodes: nodes as u64, names: names as u64 };
+    Row { name: name.into(), model, list: L.to_vec(), cells: names, answer }
+}
+
+/// Refused at the `nth` field, counted from 0, with this tag and these contents. There are cells enough.
+fn refused(name: &str, model: Vec<u8>, number: u64, field: (u8, &str, usize)) -> Row {
+    let place = place_of(&model, field);
+    Row { name: name.into(), model, list: L.to_vec(), cells: 3 * MANY, answer: Verdict::Refused { number, place } }
+}
+
+fn place_of(model: &[u8], (tag, contents, nth): (u8, &str, usize)) -> u64 {
+    let field = [&[tag, contents.len() as u8], contents.as_bytes()].concat();
+    let mut places = (0..model.len()).filter(|at| model[*at..].starts_with(&field));
+    places.nth(nth).unwrap_or_else(|| panic!("no field {nth} {tag:02X} {contents}")) as u64
+}
+
+#[cfg(test)]
+mod tests {
+    use super::*;
+    use crate::checker::check;
+
+    #[test]
+    fn the_checker_on_the_small_models() {
+        let rows = small();
+        for row in &rows {
+            assert_eq!(check(&row.model, &row.list, row.cells), row.answer, "{}", row.name);
+        }
+        for number in [0, 13, 23, 28, 29, 30, 31, 35] {
+            let count = rows.iter().filter(|row| row.answer.number() == number).count();
+            assert!(count > 1, "{count} rows answer {number}");
+        }
+    }
+
+    #[test]
+    fn the_checker_on_the_crafted_models() {
+        for row in crafted() {
+            assert_eq!(check(&row.model, &row.list, row.cells), row.answer, "{}", row.name);
+        }
+    }
+}

@@ -1,0 +1,82 @@
+//! Names that share a bucket, for whoever knows the seed: as names of each kind, in small and in large models.
+
+use super::parts::*;
+use super::{accepted, refused};
+use crate::buckets::{colliding, sharing, visible_buckets};
+use crate::models::proto::Tree;
+use crate::rows::Row;
+
+/// The seed for which they are made; any would do.
+pub const SEED: u64 = 0x5DEE_CE66_D1CE_4E5B;
+
+const FEW: usize = 16;
+const MANY: usize = 1_000;
+
+pub fn few() -> Vec<Row> {
+    let names = colliding(SEED, FEW);
+    [visible(&names), bodies(&names), lists(&names)].concat()
+}
+
+/// A thousand visible names in one bucket, and fewer in the lists, where those who read names again take longer.
+pub fn crafted() -> Vec<Row> {
+    let same = colliding(SEED, MANY);
+    let near = sharing(SEED, visible_buckets(MANY, 4 * MANY + 2), MANY);
+    let mut rows = [visible(&same), bodies(&same), lists(&same[..300]), visible(&near)].concat();
+    for row in &mut rows {
+        row.cells = row.cells.max(MANY);
+    }
+    rows
+}
+
+/// Nodes that each read the name before.
+fn chain(names: &[String]) -> Vec<Tree> {
+    let rest = names.windows(2).map(|pair| node(&[&pair[0]], &[&pair[1]]));
+    [bind(&names[0])].into_iter().chain(rest).collect()
+}
+
+fn visible(names: &[String]) -> Vec<Row> {
+    let (last, known) = names.split_last().expect("there are names");
+    let mut unseen = chain(known);
+    unseen.push(read(last));
+    let mut rows = vec![
+        accepted("a chain in one bucket", model(graph(chain(names))), names.len(), names.len()),
+        refused("read, not bound, in the bucket of all", model(graph(unseen)), 30, (READ, last, 0)),
+    ];
+    for at in [0, names.len() / 2, names.len() - 1] {
+        let twice = chain(names).into_iter().chain([bind(&names[at])]);
+        rows.push(refused("one of a bucket again", model(graph(twice)), 23, (BOUND, &names[at], 1)));
+    }
+    rows
+}
+
+/// A body takes half of a bucket with it when it ends.
+fn bodies(names: &[String]) -> Vec<Row> {
+    let (outer, inner) = names.split_at(names.len() / 2);
+    let before = || binds(outer).chain([holder([graph(binds(inner).chain(reads(names)))])]).chain(reads(outer));
+    let stale = inner[0].as_str();
+    let late = before().chain([read(stale)]);
+    let again = before().chain(binds(inner)).chain(reads(names));
+    let nodes = 3 * names.len() + 1 + outer.len() + inner.len();
+    vec![
+        accepted("a bucket with a body's names, bound again", model(graph(again)), nodes, names.len()),
+        refused("a body's name of a bucket, later", model(graph(late)), 30, (READ, stale, 1)),
+    ]
+}
+
+/// The same as names of nodes, of attributes and of initializers.
+fn lists(names: &[String]) -> Vec<Row> {
+    let nodes = || names.iter().map(|name| named(name));
+    let holds = |node: Tree, name: &String| node.tree(5, attribute(name));
+    let attributes = || names.iter().fold(node(&[], &[]), holds);
+    let inputs = || names.iter().fold(graph([]), |graph, name| graph.tree(11, value(name)));
+    let defaults = || names.iter().rev().fold(inputs(), |graph, name| graph.tree(5, tensor(name)));
+    let again = &names[names.len() / 2];
+    vec![
+        accepted("nodes in one bucket", model(graph(nodes())), names.len(), 0),
+        accepted("attributes in one bucket", model(graph([attributes()])), 1, 0),
+        accepted("defaults in one bucket", model(defaults()), 0, names.len()),
+        refused("a node again", model(graph(nodes().chain([named(again)]))), 29, (NODE_NAME, again, 1)),
+        refused("an attribute again", model(graph([holds(attributes(), again)])), 31, (ATTRIBUTE_NAME, again, 1)),
+        refused("a default again", model(defaults().tree(5, tensor(again))), 23, (TENSOR_NAME, again, 1)),
+    ]
+}

@@ -1,0 +1,90 @@
+//! Initializers of the main graph: names of their own, or defaults of inputs, each once.
+
+use super::parts::*;
+use super::{accepted, refused, AGAIN, MANY};
+use crate::models::proto::Tree;
+use crate::rows::Row;
+
+pub fn rows() -> Vec<Row> {
+    [few(), few_twice(), nested(), many(), many_between()].concat()
+}
+
+/// A graph with these inputs and initializers, in this order on the wire.
+fn main_graph(inputs: &[String], tensors: &[String]) -> Tree {
+    let graph = inputs.iter().fold(graph([]), |graph, name| graph.tree(11, value(name)));
+    tensors.iter().fold(graph, |graph, name| graph.tree(5, tensor(name)))
+}
+
+fn list(names: &[&str]) -> Vec<String> {
+    names.iter().map(|name| name.to_string()).collect()
+}
+
+fn of(inputs: &[&str], tensors: &[&str]) -> Vec<u8> {
+    model(main_graph(&list(inputs), &list(tensors)))
+}
+
+fn few() -> Vec<Row> {
+    let first = graph([read("x")]).tree(5, tensor("x")).tree(5, tensor("w")).tree(11, value("x"));
+    vec![
+        accepted("a default", of(&["x"], &["x"]), 0, 1),
+        accepted("defaults in another order", of(&["x", "y", "z"], &["z", "x", "y"]), 0, 3),
+        accepted("a default between others", of(&["x"], &["v", "x", "w"]), 0, 3),
+        accepted("a default before its input on the wire", model(first), 1, 2),
+    ]
+}
+
+fn few_twice() -> Vec<Row> {
+    let twice = |name: &str, model: Vec<u8>, nth: usize| refused(name, model, 23, (TENSOR_NAME, "x", nth));
+    let bound = graph([bind("x")]).tree(11, value("x")).tree(5, tensor("x"));
+    vec![
+        twice("two defaults", of(&["x"], &["x", "x"]), 1),
+        twice("two defaults with others between", of(&["x", "y"], &["v", "x", "y", "x"]), 1),
+        twice("three defaults", of(&["y", "x"], &["x", "y", "x", "x"]), 1),
+        twice("two initializers", of(&["y"], &["x", "y", "x"]), 1),
+        refused("two inputs", of(&["x", "y", "x"], &["x"]), 23, (LISTED, "x", 1)),
+        refused("a default's name bound", model(bound), 23, (BOUND, "x", 0)),
+    ]
+}
+
+/// A nested graph gives no defaults.
+fn nested() -> Vec<Row> {
+    let within = |graph_: Tree| model(graph([holder([graph_])]).tree(11, value("x")).tree(5, tensor("x")));
+    let own = graph([]).tree(11, value("y")).tree(5, tensor("y"));
+    vec![
+        refused("of the main graph's input", within(graph([]).tree(5, tensor("x"))), 23, (TENSOR_NAME, "x", 0)),
+        refused("of its own input", within(own), 23, (TENSOR_NAME, "y", 0)),
+    ]
+}
+
+fn many() -> Vec<Row> {
+    let inputs = names('x', MANY);
+    let backwards: Vec<String> = inputs.iter().rev().cloned().collect();
+    let mut rows = vec![
+        accepted("many defaults", model(main_graph(&inputs, &inputs)), 0, MANY),
+        accepted("many defaults in reverse", model(main_graph(&inputs, &backwards)), 0, MANY),
+        accepted("many inputs, few defaults", model(main_graph(&inputs, &inputs[9..11])), 0, MANY),
+    ];
+    for at in AGAIN {
+        for order in [&inputs, &backwards] {
+            let again = [&order[..], &inputs[at..=at]].concat();
+            let field = (TENSOR_NAME, inputs[at].as_str(), 1);
+            rows.push(refused("one of many again", model(main_graph(&inputs, &again)), 23, field));
+        }
+    }
+    rows
+}
+
+/// Defaults and names of their own by turns, and one of either again.
+fn many_between() -> Vec<Row> {
+    let (inputs, own) = (names('x', MANY), names('w', MANY));
+    let mixed: Vec<String> = inputs.iter().zip(&own).flat_map(|(x, w)| [w.clone(), x.clone()]).collect();
+    let mut rows = vec![accepted("by turns", model(main_graph(&inputs, &mixed)), 0, 2 * MANY)];
+    for at in AGAIN {
+        for name in [&inputs[at], &own[at]] {
+            let again = [&mixed[..], std::slice::from_ref(name)].concat();
+            let field = (TENSOR_NAME, name.as_str(), 1);
+            rows.push(refused("by turns, one again", model(main_graph(&inputs, &again)), 23, field));
+        }
+    }
+    rows
+}
