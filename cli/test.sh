@@ -124,7 +124,14 @@ many_names() {
     try 0 '*: accepted nodes 20000 names 20001' '' check unnamed.onnx
     try 0 '*: accepted nodes 20000 names 20001' '' check --cells 20001 --seed 7 unnamed.onnx
     try 1 '*: refused 40 at *there are 20000 cells*' '' check --cells 20000 unnamed.onnx
+    try 0 '*: accepted nodes 20000 names 20001' '' check named.onnx
+    try 1 '*: refused 29 at *"node0"*first at 50, graph > node?0? "node0"*' '' check named-twice.onnx
+    try 0 '*: accepted nodes 0 names 20000' '' check defaults.onnx
+    try 0 '*: accepted nodes 1 names 1' '' check attributes.onnx
     quick unnamed.onnx
+    quick named.onnx
+    quick defaults.onnx
+    quick attributes.onnx
     try 0 '*: accepted nodes 1 names 1500000' '' check outputs.onnx
     # with no memory for them it is not judged, and the next one is
     (ulimit -v 32000 && exec "$gate" check outputs.onnx unnamed.onnx >"$work/out" 2>"$work/err")

@@ -5,12 +5,12 @@ from pathlib import Path
 examples, folder = sys.argv[1], Path(sys.argv[2])
 sys.dont_write_bytecode = True
 sys.path.insert(0, examples)
-from make import graph, graph_input, graph_output, model, node  # noqa: E402
+from make import graph, graph_input, graph_output, initializer, integer, model, node  # noqa: E402
 
 
-def chain(count):
+def chain(count, name=lambda i: ""):
     """Each node reads the output before it."""
-    nodes = (node("Relu", [f"v{i}"], [f"v{i + 1}"]) for i in range(count))
+    nodes = (node("Relu", [f"v{i}"], [f"v{i + 1}"], name=name(i)) for i in range(count))
     return model(graph("chain", graph_input("v0"), *nodes, graph_output(f"v{count}")))
 
 
@@ -18,5 +18,19 @@ def outputs(count):
     return model(graph("g", node("Split", [], [f"v{i:06x}" for i in range(count)])))
 
 
+def defaults(count):
+    """As many inputs, each with an initializer of its name."""
+    values = [*(graph_input(f"w{i}") for i in range(count)), *(initializer(f"w{i}") for i in range(count))]
+    return model(graph("g", *values))
+
+
+def attributes(count):
+    return model(graph("g", node("Relu", [], ["y"], *(integer(f"a{i}", i) for i in range(count)))))
+
+
 (folder / "unnamed.onnx").write_bytes(chain(20_000))
+(folder / "named.onnx").write_bytes(chain(20_000, "node{}".format))
+(folder / "named-twice.onnx").write_bytes(chain(20_000, lambda i: f"node{i % 19_999}"))
+(folder / "defaults.onnx").write_bytes(defaults(20_000))
+(folder / "attributes.onnx").write_bytes(attributes(20_000))
 (folder / "outputs.onnx").write_bytes(outputs(1_500_000))
