@@ -1,0 +1,41 @@
+use native.Mathlib.Omega.{arith}
+use Rattle.index.proofs.ScanLaws.{Scanning, scan-start, scan-end, scan-here, scan-next}
+use borrow.Author.Needs.{needs}
+use Rattle.index.proofs.tables.scan.Statement.{statement}
+use Rattle.index.proofs.tables.scan.Tie as tie
+
+abbrev Inv-loop : tie.InvT-loop
+Inv-loop model table below name i₀ i = Scanning model table below name i
+
+abbrev μ-loop : tie.MeasureT-loop
+μ-loop model table below name i₀ i = i
+
+loop-holds : tie.Need-loop-holds Inv-loop μ-loop
+loop-holds c = scan-start _ _ _ _
+
+name-of-requires : tie.Need-name-of-requires Inv-loop μ-loop
+name-of-requires c κs = omega (arith, c .before .loop .inv .inside, c .loop-test .taken, c .before .before .before .before .before .pre)
+
+returns : tie.Need-returns Inv-loop μ-loop
+returns c = scan-here (c .before .before .before .before .loop .inv) (c .before .before .before .loop-test .taken) (c .before .before .name-of .ensures) (c .before .same-bytes .ensures) (c .if1 .taken)
+
+loop-again : tie.Need-loop-again Inv-loop μ-loop
+loop-again c = scan-next (c .before .before .before .before .loop .inv) (c .before .before .before .loop-test .taken) (c .before .before .name-of .ensures) (c .before .same-bytes .ensures) (c .if1 .left)
+
+returns-2 : tie.Need-returns-2 Inv-loop μ-loop
+returns-2 c = scan-end (c .before .loop .inv) (c .loop-test .left)
+
+pub scan-spec : {M : Type 1} → statement M
+scan-spec =
+    tie.close
+    (tie.spec
+    Inv-loop
+    μ-loop
+    loop-holds
+    (λ c. search needs)
+    name-of-requires
+    (λ c κs. search needs)
+    returns
+    (λ c. search needs)
+    loop-again
+    returns-2)
