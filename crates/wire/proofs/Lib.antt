@@ -12,3 +12,4 @@ pub mod ShortLaws
 pub mod Refusing
 pub mod MessageLaws
 pub mod Along
+pub mod OutlineLaws

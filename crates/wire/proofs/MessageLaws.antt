@@ -18,11 +18,11 @@ use Rattle.wire.specs.declared.Sought.the-variants as sought
 use Rattle.wire.proofs.CursorLaws.{says}
 use Rattle.wire.proofs.Along.{Onward, all-some}
 
-unfoldable without : Option (Field × Cursor) → Option Field
+unfoldable pub without : Option (Field × Cursor) → Option Field
 without none = none
 without (some p) = some (p .0)
 
-same-found : (r : Sought) → foundSays r ≡ without (soughtSays r)
+pub same-found : (r : Sought) → foundSays r ≡ without (soughtSays r)
 unfolding foundSays soughtSays without
 same-found (sought.Found g c) = refl
 same-found sought.Missing = refl

@@ -8,3 +8,4 @@ pub mod Message
 pub mod Order
 pub mod Notation
 pub mod Samples
+pub mod Outline

@@ -2,9 +2,11 @@
 // decoded ahead, and every function answers for any bytes and any numbers. What the answers mean stands in specs/.
 mod cursors;
 mod messages;
+mod outlines;
 mod slices;
 mod varints;
 
+pub use outlines::Outline;
 pub use slices::between;
 pub use slices::same_bytes;
 pub use varints::read_varint;
