@@ -12,6 +12,8 @@ use Rattle.wire.specs.Bytes.{Bytes, member}
 use Rattle.wire.specs.Message.{allOf, firstOf, numberOf, placeOf, message, whole}
 use Rattle.wire.specs.declared.Refusal.{Refusal}
 use Rattle.wire.specs.declared.Field.{Field}
+use Rattle.wire.specs.declared.outlines.Outline.{Outline}
+use Rattle.wire.specs.Outline.{Starts}
 use Rattle.wire.specs.declared.Sought.the-variants as sought
 use Rattle.wire.proofs.Lists.{no-first}
 use Rattle.wire.proofs.Passing.{pass-same, passed-bind, passed-seq}
@@ -21,7 +23,7 @@ use Rattle.schema.specs.Answers.{silent}
 use Rattle.rules.specs.Header.{opsetImport, header}
 use Rattle.messages.specs.Imports.{importsIn}
 use Rattle.messages.specs.Answers.{rulingSays}
-use Rattle.messages.specs.Imported.{rulingOf, headed, holds}
+use Rattle.messages.specs.Imported.{Outlined, rulingOf, headed, holds}
 use Rattle.messages.specs.declared.imports.Imports.{Imports}
 use Rattle.messages.specs.declared.imports.Heading.{Heading}
 use Rattle.messages.specs.declared.imports.Heading.the-variants as heading
@@ -38,6 +40,16 @@ version-below n h = simp (lt-leb 4 n h)
 pub version-rest : (n : ℕ) → 4 ≤ n → leb n 10 ≡ within 4 10 n
 unfolding within
 version-rest n h = simp (le-leb 4 n h)
+
+-- ---- one reading of the model's own fields
+
+pub outlined : (model : Bytes) {m : Field} → m ≡ whole model → {o : Outline} {e f : ℕ} → Starts model m Model·ir-version (o .first) × Starts model m Model·graph (o .second) × Starts model m Model·opset-import (o .third) × Starts model m Model·functions (o .fourth) × Starts model m e (o .fifth) × Starts model m f (o .sixth) → Outlined model o
+outlined model em {o} k = record {
+  version = subst (λ (m : Field). Starts model m Model·ir-version (o .first)) em (k .0);
+  graph = subst (λ (m : Field). Starts model m Model·graph (o .second)) em (k .1);
+  imports = subst (λ (m : Field). Starts model m Model·opset-import (o .third)) em (k .2);
+  functions = subst (λ (m : Field). Starts model m Model·functions (o .fourth)) em (k .3);
+}
 
 -- ---- the answer of the header, as a ruling
 

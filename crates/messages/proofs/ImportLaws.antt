@@ -9,6 +9,7 @@ use Rattle.wire.specs.Outcome.{pass, _>>=_, _>>_, each, Judged, refused, refuse
 use Rattle.wire.specs.Bytes.{Bytes, same, member}
 use Rattle.wire.specs.Message.{allOf, numberOf, bytesOf, message, whole}
 use Rattle.wire.specs.Order.{Ordered}
+use Rattle.wire.specs.Outline.{Starts}
 use Rattle.wire.specs.Answers.{contentsOf, soughtSays, soughtIn}
 use Rattle.wire.specs.declared.Refusal.{Refusal}
 use Rattle.wire.specs.declared.Field.{Field}
@@ -157,9 +158,9 @@ pub record Importing (model list : Bytes) (c : Cursor) : Type 0 where
   pub split : All model ≡ pre ++ From model (c .at)
   pub past : each (opsetImport model list) [] pre ≡ pass imports
 
-pub importing-start : (model list : Bytes) → Importing model list (contentsOf (whole model))
-unfolding each whole contentsOf
-importing-start model list = record { pre = []; imports = []; ends = refl; split = from-start model; past = refl }
+pub importing-start : (model list : Bytes) {pos : ℕ} → Starts model (whole model) Model·opset-import pos → Importing model list (record { at = pos; end = length model })
+unfolding each whole allFrom
+importing-start model list k = record { pre = []; imports = []; ends = refl; split = sym (k .same); past = refl }
 
 module _ {model list : Bytes} {c : Cursor} (q : Importing model list c) where
   left : each (opsetImport model list) [] (All model) ≡ each (opsetImport model list) (q .imports) (From model (c .at))
@@ -218,10 +219,10 @@ pub record Keeping (model list : Bytes) (seed : ℕ) (first lists : List ℕ) (i
   pub imported : Imported model seed lists i (map (importOf model) (importing .pre))
   pub held : Held model seed 0 first lists
 
-pub keeping-start : (model list : Bytes) (seed : ℕ) {lists : List ℕ} → Indexed model seed (tableOf lists) (known lists) → Keeping model list seed lists lists (record { listing = record { base = 0; top = 0; whole = true }; default = false }) (contentsOf (whole model))
+pub keeping-start : (model list : Bytes) (seed : ℕ) {pos : ℕ} → Starts model (whole model) Model·opset-import pos → {lists : List ℕ} → Indexed model seed (tableOf lists) (known lists) → Keeping model list seed lists lists (record { listing = record { base = 0; top = 0; whole = true }; default = false }) (record { at = pos; end = length model })
 unfolding importing-start member
-keeping-start model list seed ix = record {
-  importing = importing-start model list;
+keeping-start model list seed begins ix = record {
+  importing = importing-start model list begins;
   imported = record { listed = listed-begin ix (omega arith) true; default = refl };
   held = held-all ix (omega arith);
 }

@@ -5,6 +5,10 @@ use mathlib.Core.Bool.{_||_}
 use mathlib.Core.List.{List, []}
 use Rattle.wire.specs.declared.Field.{Field}
 use Rattle.wire.specs.Bytes.{Bytes, same, member}
+use Rattle.wire.specs.Message.{whole}
+use Rattle.wire.specs.Outline.{Starts}
+use Rattle.wire.specs.declared.outlines.Outline.{Outline}
+use Rattle.schema.specs.Numbers.{Model·ir-version, Model·graph, Model·opset-import, Model·functions}
 use Rattle.index.specs.Listing.{Listed, Held}
 use Rattle.messages.specs.Imports.{importOf, importsIn}
 use Rattle.messages.specs.declared.Ruling.{Ruling}
@@ -30,6 +34,13 @@ rulingOf (heading.Refused r) = ruling.Refused r
 unfoldable pub headed : Imports → Ruling → Heading
 headed i ruling.Kept = heading.Imported i
 headed i (ruling.Refused r) = heading.Refused r
+
+-- One reading of the model's own fields: where the four that the header and the main graph ask for begin.
+pub record Outlined (model : Bytes) (o : Outline) : Type 0 where
+  pub version : Starts model (whole model) Model·ir-version (o .first)
+  pub graph : Starts model (whole model) Model·graph (o .second)
+  pub imports : Starts model (whole model) Model·opset-import (o .third)
+  pub functions : Starts model (whole model) Model·functions (o .fourth)
 
 -- A header that passes leaves the model's imports.
 unfoldable pub holds : (model : Bytes) (seed : ℕ) (lists : List ℕ) → Heading → Type 0

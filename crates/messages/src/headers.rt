@@ -12,7 +12,7 @@ ghost use Rattle.rules.specs.Header.{header};
 ghost use Rattle.index.specs.Table.{Indexed};
 ghost use Rattle.index.specs.Memory.{known, tableOf};
 ghost use Rattle.index.specs.Listing.{Held};
-ghost use Rattle.messages.specs.Imported.{rulingOf, holds};
+ghost use Rattle.messages.specs.Imported.{Outlined, rulingOf, holds};
 ghost use Rattle.messages.specs.Answers.{rulingSays};
 use crate::Ruling;
 use crate::imports::Heading;
@@ -21,8 +21,9 @@ use crate::numbers::MODEL_FUNCTIONS;
 use crate::numbers::MODEL_GRAPH;
 use crate::numbers::MODEL_IR_VERSION;
 use crate::numbers::MODEL_OPSET_IMPORT;
-use crate::wholes::has;
+use crate::wholes::has_from;
 use crate::wholes::whole;
+use wire::Outline;
 use wire::Refusal;
 
 // "ir_version outside 4..10" is refused.
@@ -46,7 +47,8 @@ fn unheaded(number: u8, place: usize) -> Heading
 }
 
 // What a model says of itself, before its main graph is judged. The cells for lists then hold the imports.
-pub fn header(model: &[u8], list: &[u8], lists: &mut [u32], seed: u64) -> Heading
+pub fn header(model: &[u8], list: &[u8], lists: &mut [u32], seed: u64, o: Outline) -> Heading
+    requires { ⌜ Outlined (now model) o ⌝ }
     requires { ⌜ Indexed (now model) seed (tableOf (now lists)) (known (now lists)) ⌝ }
     requires { ⌜ length (now model) < 2 ^ 32 ⌝ }
     ensures answer { λ r. ⌜ rulingSays (rulingOf r) ≡ silent (header (now (model .entry)) (now (list .entry)) (message (now (model .entry)) (whole (now (model .entry))))) ⌝ }
@@ -54,20 +56,20 @@ pub fn header(model: &[u8], list: &[u8], lists: &mut [u32], seed: u64) -> Headin
     ensures held { λ _. ⌜ Held (now (model .entry)) seed 0 (now (lists .entry)) (now (lists .exit)) ⌝ }
 {
     let m = whole(model);
-    if !is_ir_version(m.number_of(model, MODEL_IR_VERSION)) {
+    if !is_ir_version(m.number_from(model, MODEL_IR_VERSION, o.first)) {
         return unheaded(Ruling::BAD_IR_VERSION, m.place_of(model, MODEL_IR_VERSION));
     }
-    if !has(model, m, MODEL_GRAPH) {
+    if !has_from(model, m, MODEL_GRAPH, o.second) {
         return unheaded(Ruling::NO_GRAPH, m.place);
     }
-    if !has(model, m, MODEL_OPSET_IMPORT) {
+    if !has_from(model, m, MODEL_OPSET_IMPORT, o.third) {
         return unheaded(Ruling::NO_OPSET_IMPORT, m.place);
     }
-    let heading = opset_imports(model, list, lists, seed);
+    let heading = opset_imports(model, list, lists, seed, o.third);
     let Heading::Imported(imports) = heading else {
         return heading;
     };
-    if has(model, m, MODEL_FUNCTIONS) {
+    if has_from(model, m, MODEL_FUNCTIONS, o.fourth) {
         return unheaded(
             Ruling::FUNCTIONS_PRESENT,
             m.place_of(model, MODEL_FUNCTIONS),

@@ -6,6 +6,7 @@ ghost use lib.ListN.{length};
 ghost use Rattle.wire.specs.Outcome.{each};
 ghost use Rattle.wire.specs.Bytes.{member};
 ghost use Rattle.wire.specs.Message.{allOf, message, whole};
+ghost use Rattle.wire.specs.Outline.{Starts};
 ghost use Rattle.operators.specs.Operators.{domain};
 ghost use Rattle.schema.specs.Numbers.{Model·opset-import};
 ghost use Rattle.schema.specs.Answers.{silent};
@@ -27,6 +28,7 @@ use index::Listing;
 use operators::allows;
 use operators::canonical;
 use operators::same_domain;
+use wire::Cursor;
 use wire::Field;
 use wire::Refusal;
 use wire::Sought;
@@ -150,14 +152,24 @@ fn opset_import(
 }
 
 // An import that is passed has a domain that is new and listed: there are never more of them than the list has entries.
-pub(crate) fn opset_imports(model: &[u8], list: &[u8], lists: &mut [u32], seed: u64) -> Heading
+pub(crate) fn opset_imports(
+    model: &[u8],
+    list: &[u8],
+    lists: &mut [u32],
+    seed: u64,
+    at: usize,
+) -> Heading
+    requires { ⌜ Starts (now model) (whole (now model)) Model·opset-import at ⌝ }
     requires { ⌜ Indexed (now model) seed (tableOf (now lists)) (known (now lists)) ⌝ }
     requires { ⌜ length (now model) < 2 ^ 32 ⌝ }
     ensures answer { λ r. ⌜ rulingSays (rulingOf r) ≡ silent (each (opsetImport (now (model .entry)) (now (list .entry))) [] (allOf Model·opset-import (message (now (model .entry)) (whole (now (model .entry)))))) ⌝ }
     ensures imported { λ r. ⌜ holds (now (model .entry)) seed (now (lists .exit)) r ⌝ }
     ensures held { λ _. ⌜ Held (now (model .entry)) seed 0 (now (lists .entry)) (now (lists .exit)) ⌝ }
 {
-    let mut c = whole(model).contents();
+    let mut c = Cursor {
+        at: at,
+        end: model.len(),
+    };
     let none = Listing {
         base: 0,
         top: 0,

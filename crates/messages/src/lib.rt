@@ -29,6 +29,7 @@ pub use rulings::refused;
 pub use types::is_element;
 pub use types::main_type;
 pub use wholes::has;
+pub use wholes::model_outline;
 pub use wholes::whole;
 use wire::Refusal;
 

@@ -2,7 +2,14 @@
 ghost use mathlib.Core.Path.{_≡_};
 ghost use Rattle.wire.specs.Lists.{present};
 ghost use Rattle.wire.specs.Message.{firstOf, message, whole};
+ghost use Rattle.wire.specs.Outline.{Starts};
+ghost use Rattle.messages.specs.Imported.{Outlined};
+use crate::numbers::MODEL_FUNCTIONS;
+use crate::numbers::MODEL_GRAPH;
+use crate::numbers::MODEL_IR_VERSION;
+use crate::numbers::MODEL_OPSET_IMPORT;
 use wire::Field;
+use wire::Outline;
 use wire::Sought;
 
 // The wire type of a field with contents.
@@ -30,4 +37,31 @@ pub fn has(model: &[u8], m: Field, number: u64) -> bool
         Sought::Found(_, _) => true,
         Sought::Missing => false,
     }
+}
+
+// The same, from where an outline says that such fields begin.
+pub(crate) fn has_from(model: &[u8], m: Field, number: u64, at: usize) -> bool
+    requires { ⌜ Starts (now model) m number at ⌝ }
+    ensures { λ r. ⌜ r ≡ present (firstOf number (message (now (model .entry)) m)) ⌝ }
+{
+    match m.first_from(model, number, at) {
+        Sought::Found(_, _) => true,
+        Sought::Missing => false,
+    }
+}
+
+// One reading of the model's own fields, which may be many.
+pub fn model_outline(model: &[u8]) -> Outline
+    ensures { λ r. ⌜ Outlined (now (model .entry)) r ⌝ }
+{
+    let m = whole(model);
+    m.outline(
+        model,
+        MODEL_IR_VERSION,
+        MODEL_GRAPH,
+        MODEL_OPSET_IMPORT,
+        MODEL_FUNCTIONS,
+        0,
+        0,
+    )
 }

@@ -11,13 +11,13 @@ use Rattle.messages.proofs.imports.opset_imports.Statement.{statement}
 use Rattle.messages.proofs.imports.opset_imports.Tie as tie
 
 abbrev Inv-loop : tie.InvT-loop
-Inv-loop model list lists₀ seed c₀ imports₀ lists c imports = Keeping model list seed lists₀ lists imports c
+Inv-loop model list lists₀ seed at c₀ imports₀ lists c imports = Keeping model list seed lists₀ lists imports c
 
 abbrev μ-loop : tie.MeasureT-loop
-μ-loop model list lists₀ seed c₀ imports₀ lists c imports = length model - c .at
+μ-loop model list lists₀ seed at c₀ imports₀ lists c imports = length model - c .at
 
 loop-holds : tie.Need-loop-holds Inv-loop μ-loop
-loop-holds c = rw (c .contents .ensures ∙ ap contentsOf (c .before .whole .ensures)) (keeping-start _ _ _ (c .before .before .before .before .before .pre .0))
+loop-holds c = keeping-start _ _ _ (c .before .before .before .pre .0) (c .before .before .before .pre .1 .0)
 
 returns : tie.Need-returns Inv-loop μ-loop
 unfolding rulingSays rulingOf holds
@@ -30,7 +30,7 @@ returns-2 : tie.Need-returns-2 Inv-loop μ-loop
 returns-2 c = (ap rulingSays (headed-same _ _ (c .headed .ensures)) ∙ importing-stops (c .before .before .before .before .before .before .before .before .before .loop .inv .importing) (c .before .before .before .before .before .before .before .before .next-of .ensures) (c .before .before .before .before .before .before .sought .given .1) _ (c .before .before .before .opset-import .ensures) (c .before .enum-told3 .given .1), (headed-holds _ _ (c .headed .ensures) (c .before .enum-told3 .given .1) _ _ _, c .before .before .before .before .before .before .before .before .before .loop .inv .held))
 
 list-import-requires : tie.Need-list-import-requires Inv-loop μ-loop
-list-import-requires c κs = (c .before .before .before .before .before .before .before .before .before .loop .inv .imported .listed .index, (c .before .before .before .before .before .before .before .before .before .loop .inv .imported .listed .fits, c .before .before .before .before .before .before .before .before .before .before .before .before .before .before .before .pre .1))
+list-import-requires c κs = (c .before .before .before .before .before .before .before .before .before .loop .inv .imported .listed .index, (c .before .before .before .before .before .before .before .before .before .loop .inv .imported .listed .fits, c .before .before .before .before .before .before .before .before .before .before .before .before .before .pre .1 .1))
 
 loop-less : tie.Need-loop-less Inv-loop μ-loop
 loop-less c = import-falls _ _ (c .before .before .before .before .before .before .before .before .before .before .before .before .loop .inv .importing .ends) (c .before .before .before .before .before .before .before .before .before .before .before .next-of .ensures) (c .before .before .before .before .before .before .before .before .before .sought .given .1)
@@ -44,8 +44,6 @@ opset-imports-spec =
     (tie.spec
     Inv-loop
     μ-loop
-    (λ c κs. search needs)
-    (λ c κs. search needs)
     loop-holds
     (λ c κs. search needs)
     (λ c. search needs)

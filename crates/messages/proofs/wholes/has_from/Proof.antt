@@ -1,0 +1,21 @@
+use Rattle.wire.proofs.MessageLaws.{missing, found}
+use Rattle.messages.proofs.HeaderLaws.{has-none, has-some}
+use borrow.Author.Needs.{needs}
+use Rattle.messages.proofs.wholes.has_from.Statement.{statement}
+use Rattle.messages.proofs.wholes.has_from.Tie as tie
+
+returns : tie.Need-returns
+returns c = has-some (found _ _ _ _ (c .before .before .first-from .ensures) (c .enum-told .given .1))
+
+returns-2 : tie.Need-returns-2
+returns-2 c = has-none (missing _ _ _ _ (c .before .before .first-from .ensures) (c .enum-told2 .given .1))
+
+pub has-from-spec : {M : Type 1} → statement M
+has-from-spec =
+    tie.close
+    (tie.spec
+    (λ c κs. search needs)
+    (λ c. search needs)
+    (λ c. search needs)
+    returns
+    returns-2)
