@@ -4,6 +4,7 @@ pub mod Bytes
 pub mod Wire
 pub mod Answers
 pub mod Short
+pub mod Quick
 pub mod Message
 pub mod Order
 pub mod Notation

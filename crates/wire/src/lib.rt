@@ -2,6 +2,7 @@
 // decoded ahead, and every function answers for any bytes and any numbers. What the answers mean stands in specs/.
 mod cursors;
 mod messages;
+mod quick;
 mod slices;
 mod varints;
 

@@ -7,10 +7,10 @@ use Rattle.wire.proofs.Cursor.any_field.Tie as tie
 
 returns : tie.Need-returns
 unfolding fieldSays
-returns c = field-refused _ _ _ (c .before .before .before .tag .ensures) (c .before .r .given .1)
+returns c = field-refused _ _ _ (c .before .before .before .any-tag .ensures) (c .before .r .given .1)
 
 returns-2 : tie.Need-returns-2
-returns-2 c = c .any-value .ensures ∙ field-read _ _ _ (c .before .before .before .before .tag .ensures) (c .before .before .t .given .1)
+returns-2 c = c .any-value .ensures ∙ field-read _ _ _ (c .before .before .before .before .any-tag .ensures) (c .before .before .t .given .1)
 
 pub any-field-spec : {M : Type 1} → statement M
 any-field-spec =
