@@ -69,29 +69,29 @@ pub(crate) fn quick_value(s: &[u8], t: Tag, end: usize) -> Field
 {
     let wire = t.wire;
     let from = t.next;
-    if wire == I32 {
-        if end < from {
-            return field_of(t, 0, 0, 0);
-        }
-        if end - from < 4 {
-            return field_of(t, 0, 0, 0);
-        }
-        return field_of(t, 0, from, from + 4);
-    }
     let n = few_bytes(s, from, end);
+    if wire == LEN {
+        if n.next == 0 {
+            return field_of(t, 0, 0, 0);
+        }
+        if ((end - n.next) as u64) < n.value {
+            return field_of(t, 0, 0, 0);
+        }
+        return field_of(t, 0, n.next, n.next + n.value as usize);
+    }
     if wire == VARINT {
         return field_of(t, n.value, n.next, n.next);
     }
-    if wire != LEN {
+    if wire != I32 {
         return field_of(t, 0, 0, 0);
     }
-    if n.next == 0 {
+    if end < from {
         return field_of(t, 0, 0, 0);
     }
-    if ((end - n.next) as u64) < n.value {
+    if end - from < 4 {
         return field_of(t, 0, 0, 0);
     }
-    field_of(t, 0, n.next, n.next + n.value as usize)
+    field_of(t, 0, from, from + 4)
 }
 
 // Where the field of a tag ends, if it is a number of any size with room for ten bytes.
