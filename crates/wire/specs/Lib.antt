@@ -1,6 +1,7 @@
 pub mod Outcome
 pub mod Lists
 pub mod Bytes
+pub mod Words
 pub mod Wire
 pub mod Answers
 pub mod Short
