@@ -11,7 +11,7 @@ use Rattle.wire.specs.Lists.{contains}
 use Rattle.wire.specs.Bytes.{Bytes, byte}
 use Rattle.wire.specs.Wire.{varint, tag, sized, value, field}
 use Rattle.wire.specs.Answers.{varintSays, fieldSays, withCursor, after}
-use Rattle.wire.specs.Quick.{Few, Many, wires, QuickTag, QuickValue, fieldOf, Long}
+use Rattle.wire.specs.Quick.{Few, Many, wires, QuickTag, Fixed, QuickValue, fieldOf, Long}
 use Rattle.wire.specs.declared.Refusal.{Refusal}
 use Rattle.wire.specs.declared.Varint.{Varint}
 use Rattle.wire.specs.declared.Tag.{Tag}
@@ -133,6 +133,10 @@ module _ (s : Bytes) (t : Tag) (end : ℕ) where
   unfolding value
   as-four w = rw w
 
+  as-eight : t .wire ≡ 1 → sized t end 0 (t .next) 8 ≡ value s t end
+  unfolding value
+  as-eight w = rw w
+
   a-wire : (w : ℕ) → t .wire ≡ w → contains w wires ≡ true → contains (t .wire) wires ≡ true
   a-wire w e k = rw e k
 
@@ -154,12 +158,19 @@ module _ (s : Bytes) (t : Tag) (end : ℕ) where
       read = ap pass k ∙ fits-there 0 (v .next) (v .value) next e h ∙ as-length w v (q .read (t .place));
     }
 
-    pub quick-four : t .wire ≡ 5 → {next : ℕ} → next ≡ t .next + 4 → next ≤ end → f ≡ fieldOf t 0 (t .next) next → QuickValue s t end f
-    unfolding contains
-    quick-four w {next} e h k = record {
-      good = a-wire 5 w refl;
-      read = ap pass k ∙ fits-there 0 (t .next) 4 next e h ∙ as-four w;
+    pub quick-fixed : {size : ℕ} → Fixed (t .wire) size → {next : ℕ} → next ≡ t .next + size → next ≤ end → f ≡ fieldOf t 0 (t .next) next → QuickValue s t end f
+    quick-fixed {size} q {next} e h k = record {
+      good = q .good;
+      read = ap pass k ∙ fits-there 0 (t .next) size next e h ∙ q .read s t end refl;
     }
+
+pub fixed-four : {wire : ℕ} → wire ≡ 5 → Fixed wire 4
+unfolding contains
+fixed-four e = record { good = rw e refl; read = λ s t end w. as-four s t end (w ∙ e) }
+
+pub fixed-eight : {wire : ℕ} → wire ≡ 1 → Fixed wire 8
+unfolding contains
+fixed-eight e = record { good = rw e refl; read = λ s t end w. as-eight s t end (w ∙ e) }
 
 -- a field that ends at 0 was not read
 pub ends-there : {f g : Field} → f ≡ g → 0 < f .next → 0 < g .next

@@ -6,7 +6,7 @@ use mathlib.Core.List.{List, [], _∷_}
 use Rattle.wire.specs.Outcome.{pass}
 use Rattle.wire.specs.Lists.{contains}
 use Rattle.wire.specs.Bytes.{Bytes}
-use Rattle.wire.specs.Wire.{VARINT, I64, LEN, I32, varint, tag, value}
+use Rattle.wire.specs.Wire.{VARINT, I64, LEN, I32, varint, tag, sized, value}
 use Rattle.wire.specs.declared.Varint.{Varint}
 use Rattle.wire.specs.declared.Tag.{Tag}
 use Rattle.wire.specs.declared.Field.{Field}
@@ -32,6 +32,11 @@ pub record QuickTag (model : Bytes) (end pos : ℕ) (t : Tag) : Type 0 where
 
 abbrev pub fieldOf : Tag → (value start next : ℕ) → Field
 fieldOf t value start next = record { place = t .place; number = t .number; wire = t .wire; value = value; start = start; next = next }
+
+-- A wire type whose values have a fixed size.
+pub record Fixed (wire size : ℕ) : Type 0 where
+  pub good : contains wire wires ≡ true
+  pub read : (model : Bytes) (t : Tag) (end : ℕ) → t .wire ≡ wire → sized t end 0 (t .next) size ≡ value model t end
 
 -- The field of a tag, and its wire type is one.
 pub record QuickValue (model : Bytes) (t : Tag) (end : ℕ) (f : Field) : Type 0 where

@@ -25,7 +25,7 @@ use crate::varints::read_varint;
 // The wire types: varint, eight bytes, length and contents, four bytes.
 pub(crate) const VARINT: u64 = 0;
 
-const I64: u64 = 1;
+pub(crate) const I64: u64 = 1;
 
 pub(crate) const LEN: u64 = 2;
 

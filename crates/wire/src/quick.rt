@@ -7,12 +7,13 @@ ghost use Prim.Native.Nat.{_+_, _%_, _<_, _≤_};
 ghost use Rattle.wire.specs.Outcome.{pass};
 ghost use Rattle.wire.specs.Wire.{varint};
 ghost use Rattle.wire.specs.Short.{Short, shortField};
-ghost use Rattle.wire.specs.Quick.{QuickTag, QuickValue, Long, fieldOf};
+ghost use Rattle.wire.specs.Quick.{QuickTag, Fixed, QuickValue, Long, fieldOf};
 ghost use Rattle.wire.specs.declared.Varint.{Varint};
 use crate::Field;
 use crate::Tag;
 use crate::VarintAnswer;
 use crate::cursors::I32;
+use crate::cursors::I64;
 use crate::cursors::LEN;
 use crate::cursors::VARINT;
 use crate::varints::few_bytes;
@@ -63,7 +64,20 @@ pub(crate) fn field_of(t: Tag, value: u64, start: usize, next: usize) -> Field
     }
 }
 
-// The field of a tag, if its value or length has one to three bytes, or it is four bytes of fixed size.
+// How many bytes a value of fixed size has; 0 for another wire type.
+fn fixed_size(wire: u64) -> usize
+    ensures { λ r. ⌜ (0 < r → Fixed wire r) ⌝ }
+{
+    if wire == I32 {
+        return 4;
+    }
+    if wire == I64 {
+        return 8;
+    }
+    0
+}
+
+// The field of a tag, if its value or length has one to three bytes, or a fixed size.
 pub(crate) fn quick_value(s: &[u8], t: Tag, end: usize) -> Field
     ensures { λ r. ⌜ (0 < r .next → QuickValue (now (s .entry)) t end r) ⌝ }
 {
@@ -82,16 +96,17 @@ pub(crate) fn quick_value(s: &[u8], t: Tag, end: usize) -> Field
     if wire == VARINT {
         return field_of(t, n.value, n.next, n.next);
     }
-    if wire != I32 {
+    let size = fixed_size(wire);
+    if size == 0 {
         return field_of(t, 0, 0, 0);
     }
     if end < from {
         return field_of(t, 0, 0, 0);
     }
-    if end - from < 4 {
+    if end - from < size {
         return field_of(t, 0, 0, 0);
     }
-    field_of(t, 0, from, from + 4)
+    field_of(t, 0, from, from + size)
 }
 
 // Where the field of a tag ends, if it is a number of any size with room for ten bytes.

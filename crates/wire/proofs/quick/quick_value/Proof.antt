@@ -1,4 +1,4 @@
-use Rattle.wire.proofs.QuickLaws.{ends-there, quick-number, quick-length, quick-four}
+use Rattle.wire.proofs.QuickLaws.{ends-there, quick-number, quick-length, quick-fixed}
 use mathlib.Core.Path.{refl}
 use native.Mathlib.Omega.{arith}
 use borrow.Author.Needs.{needs}
@@ -30,7 +30,7 @@ returns-7 : tie.Need-returns-7
 returns-7 c = λ h. absurd (omega (arith, ends-there (c .field-of7 .ensures) h))
 
 returns-8 : tie.Need-returns-8
-returns-8 c = λ h. quick-four _ _ _ (c .before .before .before .if5 .left) refl (omega arith) (c .field-of8 .ensures)
+returns-8 c = λ h. quick-fixed _ _ _ (c .before .before .before .before .fixed-size .ensures (omega arith)) refl (omega arith) (c .field-of8 .ensures)
 
 pub quick-value-spec : {M : Type 1} → statement M
 quick-value-spec =
@@ -47,6 +47,7 @@ quick-value-spec =
     returns-3
     (λ c κs. search needs)
     returns-4
+    (λ c κs. search needs)
     (λ c κs. search needs)
     returns-5
     (λ c κs. search needs)
