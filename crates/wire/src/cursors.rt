@@ -190,13 +190,25 @@ impl Cursor {
         }
     }
 
-    // The field at the cursor, whatever sizes its tag and its length have.
+    // The field at the cursor, whatever sizes its tag and its length have. After a long tag the value may well be short.
     fn any_field(self, s: &[u8]) -> FieldAnswer
         ensures { λ r. ⌜ fieldSays r ≡ withCursor (self .end) (field (now (s .entry)) (self .end) (self .at)) ⌝ }
     {
         match self.any_tag(s) {
             TagAnswer::Refused(r) => FieldAnswer::Refused(r),
-            TagAnswer::Read(t) => self.any_value(s, t),
+            TagAnswer::Read(t) => {
+                let f = quick_value(s, t, self.end);
+                if 0 < f.next {
+                    return FieldAnswer::Read(
+                        f,
+                        Cursor {
+                            at: f.next,
+                            end: self.end,
+                        },
+                    );
+                }
+                self.any_value(s, t)
+            }
         }
     }
 
