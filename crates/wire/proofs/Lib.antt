@@ -9,6 +9,7 @@ pub mod VarintLaws
 pub mod SliceLaws
 pub mod CursorLaws
 pub mod ShortLaws
+pub mod QuickLaws
 pub mod Refusing
 pub mod MessageLaws
 pub mod Along

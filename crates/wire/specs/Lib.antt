@@ -1,9 +1,11 @@
 pub mod Outcome
 pub mod Lists
 pub mod Bytes
+pub mod Words
 pub mod Wire
 pub mod Answers
 pub mod Short
+pub mod Quick
 pub mod Message
 pub mod Order
 pub mod Notation

@@ -1,11 +1,12 @@
 -- A short field: one byte of tag, one of length or of value.
-use Prim.Native.Nat.{ℕ, _+_, _/_, _%_, _≤_, _<_}
+use Prim.Native.Nat.{ℕ, _+_, _/_, _%_, _≤_}
 use mathlib.Core.Path.{_≡_}
 use mathlib.Core.Bool.{true, false}
 use lib.Dec.{eqb}
+use lib.ListN.{length}
 use Rattle.wire.specs.Outcome.{pass}
 use Rattle.wire.specs.Bytes.{Bytes, byte}
-use Rattle.wire.specs.Wire.{VARINT, LEN, field}
+use Rattle.wire.specs.Wire.{VARINT, field}
 use Rattle.wire.specs.declared.Field.{Field}
 
 -- The field that the two bytes at a place say, with its end.
@@ -23,11 +24,5 @@ shortField model pos next = record {
 pub record Short (model : Bytes) (end pos next : ℕ) : Type 0 where
   pub room : pos + 2 ≤ next
   pub inside : next ≤ end
+  pub there : next ≤ length model
   pub read : field model end pos ≡ pass (shortField model pos next)
-
--- A length of one byte at a place, and where its contents end.
-pub record ShortLength (model : Bytes) (wire end pos next : ℕ) : Type 0 where
-  pub length : wire ≡ LEN
-  pub short : byte model pos < 128
-  pub ends : next ≡ pos + 1 + byte model pos
-  pub inside : next ≤ end

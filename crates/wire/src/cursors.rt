@@ -1,12 +1,10 @@
 // A cursor's methods take it by value and hand back the next one inside the answer. "A reading place moves on by whole fields."
 ghost use mathlib.Core.Path.{_≡_};
-ghost use mathlib.Core.Bool.{true, false};
-ghost use lib.Dec.{eqb};
-ghost use Prim.Native.Nat.{_+_, _%_, _<_, _≤_};
 ghost use Rattle.wire.specs.Outcome.{refused};
 ghost use Rattle.wire.specs.Wire.{badTag, tag, sized, value, field};
 ghost use Rattle.wire.specs.Answers.{varintSays, tagSays, fieldSays, withCursor, soughtSays, soughtIn};
-ghost use Rattle.wire.specs.Short.{Short, shortField, ShortLength};
+ghost use Rattle.wire.specs.Lists.{contains};
+ghost use Rattle.wire.specs.Quick.{wires};
 use crate::Cursor;
 use crate::Field;
 use crate::FieldAnswer;
@@ -15,17 +13,23 @@ use crate::Sought;
 use crate::Tag;
 use crate::TagAnswer;
 use crate::VarintAnswer;
-use crate::varints::byte_at;
+use crate::quick::field_of;
+use crate::quick::long_end;
+use crate::quick::number_at;
+use crate::quick::quick_tag;
+use crate::quick::quick_value;
+use crate::quick::short_field;
+use crate::quick::short_size;
 use crate::varints::read_varint;
 
 // The wire types: varint, eight bytes, length and contents, four bytes.
-const VARINT: u64 = 0;
+pub(crate) const VARINT: u64 = 0;
 
-const I64: u64 = 1;
+pub(crate) const I64: u64 = 1;
 
-const LEN: u64 = 2;
+pub(crate) const LEN: u64 = 2;
 
-const I32: u64 = 5;
+pub(crate) const I32: u64 = 5;
 
 // "A tag is at most 2^32 - 1, its field number at least 1, its wire type 0, 1, 2 or 5."
 fn is_bad_tag(t: u64) -> bool
@@ -81,91 +85,24 @@ fn past_end(place: usize) -> FieldAnswer
     })
 }
 
-// The size of a length at a place and of its contents, if the length has one byte. 0, if it has not, or there is no length.
-fn contents_size(s: &[u8], wire: u64, at: usize, end: usize) -> usize
-    ensures { λ r. ⌜ (0 < r → ShortLength (now (s .entry)) wire end at (at + r)) ⌝ }
+fn is_wire(wire: u64) -> bool
+    ensures { λ r. ⌜ r ≡ contains wire wires ⌝ }
 {
-    if wire != LEN {
-        return 0;
-    }
-    if end <= at {
-        return 0;
-    }
-    let n = byte_at(s, at);
-    if 128 <= n {
-        return 0;
-    }
-    let size = n as usize + 1;
-    if end - at < size {
-        return 0;
-    }
-    size
-}
-
-// The size of the field at a place, if it is short: one byte of tag, one of length or of value. 0, if it is not.
-fn short_size(s: &[u8], at: usize, end: usize) -> usize
-    ensures { λ r. ⌜ (0 < r → Short (now (s .entry)) end at (at + r)) ⌝ }
-{
-    if end <= at {
-        return 0;
-    }
-    let room = end - at;
-    if room < 2 {
-        return 0;
-    }
-    let t = byte_at(s, at);
-    if t < 8 {
-        return 0;
-    }
-    if 128 <= t {
-        return 0;
-    }
-    let n = byte_at(s, at + 1);
-    if 128 <= n {
-        return 0;
-    }
-    let wire = t % 8;
     if wire == VARINT {
-        return 2;
+        return true;
     }
-    if wire != LEN {
-        return 0;
+    if wire == I64 {
+        return true;
     }
-    let size = n as usize + 2;
-    if room < size {
-        return 0;
+    if wire == LEN {
+        return true;
     }
-    size
-}
-
-fn short_value(t: u64, n: u64) -> u64
-    ensures { λ r. ⌜ r ≡ elim (eqb (t % 8) 0) [ true ↦ n | false ↦ 0 ] ⌝ }
-{
-    if t % 8 == VARINT {
-        return n;
-    }
-    0
-}
-
-// The short field from `at` to `next`.
-fn short_field(s: &[u8], at: usize, next: usize) -> Field
-    requires { ⌜ at + 2 ≤ next ⌝ }
-    ensures { λ r. ⌜ r ≡ shortField (now (s .entry)) at next ⌝ }
-{
-    let t = byte_at(s, at);
-    Field {
-        place: at,
-        number: t / 8,
-        wire: t % 8,
-        value: short_value(t, byte_at(s, at + 1)),
-        start: at + 2,
-        next: next,
-    }
+    wire == I32
 }
 
 impl Cursor {
-    // The tag at the cursor.
-    pub fn tag(self, s: &[u8]) -> TagAnswer
+    // The tag at the cursor, whatever size it has.
+    fn any_tag(self, s: &[u8]) -> TagAnswer
         ensures { λ r. ⌜ tagSays r ≡ tag (now (s .entry)) (self .end) (self .at) ⌝ }
     {
         let at = self.at;
@@ -187,6 +124,19 @@ impl Cursor {
                 })
             }
         }
+    }
+
+    // The tag at the cursor. Most have one byte or two.
+    pub fn tag(self, s: &[u8]) -> TagAnswer
+        ensures { λ r. ⌜ tagSays r ≡ tag (now (s .entry)) (self .end) (self .at) ⌝ }
+    {
+        let t = quick_tag(s, self.at, self.end);
+        if 0 < t.next {
+            if is_wire(t.wire) {
+                return TagAnswer::Read(t);
+            }
+        }
+        self.any_tag(s)
     }
 
     // The value, or the length and the contents, after a tag: whatever size it has.
@@ -213,39 +163,78 @@ impl Cursor {
         sized_field(t, end, 0, t.next, 4)
     }
 
-    // The value, or the length and the contents, after a tag that was read in this cursor's message. Most lengths have one byte.
+    // The value, or the length and the contents, after a tag that was read in this cursor's message. The last answer is made anew, so
+    // that the others need no memory.
     pub fn value(self, s: &[u8], t: Tag) -> FieldAnswer
         ensures { λ r. ⌜ fieldSays r ≡ withCursor (self .end) (value (now (s .entry)) t (self .end)) ⌝ }
     {
         let end = self.end;
-        let from = t.next;
-        let size = contents_size(s, t.wire, from, end);
-        if size == 0 {
-            return self.any_value(s, t);
+        let quick = quick_value(s, t, end);
+        if 0 < quick.next {
+            return FieldAnswer::Read(
+                quick,
+                Cursor {
+                    at: quick.next,
+                    end: end,
+                },
+            );
         }
-        let next = from + size;
-        let field = Field {
-            place: t.place,
-            number: t.number,
-            wire: t.wire,
-            value: 0,
-            start: from + 1,
-            next: next,
-        };
-        FieldAnswer::Read(field, Cursor { at: next, end: end })
+        let far = long_end(s, t, end);
+        if 0 < far {
+            let long = field_of(t, number_at(s, t, end), far, far);
+            return FieldAnswer::Read(long, Cursor { at: far, end: end });
+        }
+        match self.any_value(s, t) {
+            FieldAnswer::Refused(r) => FieldAnswer::Refused(r),
+            FieldAnswer::Read(f, c) => FieldAnswer::Read(f, c),
+        }
     }
 
-    // The field at the cursor, whatever sizes its tag and its length have.
+    // The field at the cursor, whatever sizes its tag and its length have. After a long tag the value may well be short.
     fn any_field(self, s: &[u8]) -> FieldAnswer
         ensures { λ r. ⌜ fieldSays r ≡ withCursor (self .end) (field (now (s .entry)) (self .end) (self .at)) ⌝ }
     {
-        match self.tag(s) {
+        match self.any_tag(s) {
             TagAnswer::Refused(r) => FieldAnswer::Refused(r),
-            TagAnswer::Read(t) => self.any_value(s, t),
+            TagAnswer::Read(t) => {
+                let f = quick_value(s, t, self.end);
+                if 0 < f.next {
+                    return FieldAnswer::Read(
+                        f,
+                        Cursor {
+                            at: f.next,
+                            end: self.end,
+                        },
+                    );
+                }
+                self.any_value(s, t)
+            }
         }
     }
 
-    // The field at the cursor. Most are short.
+    // The field at the cursor, with few tests where its sizes are usual.
+    fn quick_field(self, s: &[u8]) -> FieldAnswer
+        ensures { λ r. ⌜ fieldSays r ≡ withCursor (self .end) (field (now (s .entry)) (self .end) (self .at)) ⌝ }
+    {
+        let end = self.end;
+        let t = quick_tag(s, self.at, end);
+        if t.next == 0 {
+            return self.any_field(s);
+        }
+        let f = quick_value(s, t, end);
+        if f.next == 0 {
+            return self.any_field(s);
+        }
+        FieldAnswer::Read(
+            f,
+            Cursor {
+                at: f.next,
+                end: end,
+            },
+        )
+    }
+
+    // The field at the cursor. Most are short, and those are read where this is called: it is just small enough for that.
     pub fn field(self, s: &[u8]) -> FieldAnswer
         ensures { λ r. ⌜ fieldSays r ≡ withCursor (self .end) (field (now (s .entry)) (self .end) (self .at)) ⌝ }
     {
@@ -253,14 +242,17 @@ impl Cursor {
         let end = self.end;
         let size = short_size(s, at, end);
         if size == 0 {
-            return self.any_field(s);
+            return match self.quick_field(s) {
+                FieldAnswer::Refused(r) => FieldAnswer::Refused(r),
+                FieldAnswer::Read(f, c) => FieldAnswer::Read(f, c),
+            };
         }
         let next = at + size;
         FieldAnswer::Read(short_field(s, at, next), Cursor { at: next, end: end })
     }
 
-    // The next field with this number, from the cursor on. Short fields are passed over where they stand, with no answer made for
-    // each.
+    // The next field with this number, from the cursor on. Fields of usual sizes are passed over where they stand, with no answer
+    // made for each.
     pub fn next_of(self, s: &[u8], number: u64) -> Sought
         ensures { λ r. ⌜ soughtSays r ≡ soughtIn (now (s .entry)) number (self .end) (self .at) ⌝ }
     {
@@ -270,17 +262,32 @@ impl Cursor {
             if end <= at {
                 return Sought::Missing;
             }
-            let size = short_size(s, at, end);
-            if 0 < size {
-                let next = at + size;
-                if number == byte_at(s, at) / 8 {
-                    return Sought::Found(short_field(s, at, next), Cursor { at: next, end: end });
+            let t = quick_tag(s, at, end);
+            if 0 < t.next {
+                let f = quick_value(s, t, end);
+                if 0 < f.next {
+                    if number == f.number {
+                        return Sought::Found(
+                            f,
+                            Cursor {
+                                at: f.next,
+                                end: end,
+                            },
+                        );
+                    }
+                    at = f.next;
+                    continue;
                 }
-                at = next;
-                continue;
+                let far = long_end(s, t, end);
+                if 0 < far {
+                    if number != t.number {
+                        at = far;
+                        continue;
+                    }
+                }
             }
             let here = Cursor { at: at, end: end };
-            let read = here.any_field(s);
+            let read = here.quick_field(s);
             let FieldAnswer::Read(field, next) = read else {
                 return Sought::Missing;
             };

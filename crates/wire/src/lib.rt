@@ -3,6 +3,7 @@
 mod cursors;
 mod messages;
 mod outlines;
+mod quick;
 mod slices;
 mod varints;
 

@@ -1,30 +1,13 @@
 use Rattle.wire.specs.Answers.{tagSays}
 use mathlib.Core.Path.{sym, _∙_}
-use Rattle.wire.proofs.CursorLaws.{tag-refused, tag-bad, tag-read}
 use borrow.Author.Needs.{needs}
 use Rattle.wire.proofs.Cursor.tag.Statement.{statement}
 use Rattle.wire.proofs.Cursor.tag.Tie as tie
 
 returns : tie.Need-returns
 unfolding tagSays
-returns c = tag-bad _ _ _ (c .before .before .before .before .before .read-varint .ensures) (c .before .before .before .v .given .1) (sym (c .before .is-bad-tag .ensures) ∙ c .if1 .taken)
-
-returns-2 : tie.Need-returns-2
-unfolding tagSays
-returns-2 c = tag-refused _ _ _ (c .before .before .before .read-varint .ensures) (c .before .r .given .1)
-
-returns-3 : tie.Need-returns-3
-unfolding tagSays
-returns-3 c = tag-read _ _ _ (c .before .before .before .before .before .read-varint .ensures) (c .before .before .before .v .given .1) (sym (c .before .is-bad-tag .ensures) ∙ c .if1 .left)
+returns c = c .before .before .before .before .quick-tag .ensures (c .before .before .if1 .taken) .read (sym (c .before .is-wire .ensures) ∙ c .if2 .taken)
 
 pub tag-spec : {M : Type 1} → statement M
 tag-spec =
-    tie.close
-    (tie.spec
-    (λ c κs. search needs)
-    (λ c. search needs)
-    (λ c. search needs)
-    (λ c κs. search needs)
-    returns
-    returns-2
-    returns-3)
+    tie.close (tie.spec (λ c κs. search needs) (λ c κs. search needs) returns (λ c κs. search needs) (λ c. search needs))

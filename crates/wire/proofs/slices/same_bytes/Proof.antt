@@ -1,8 +1,10 @@
-use borrow.Author.Needs.{needs}
-use native.Mathlib.Omega.{arith}
-use lib.ListN.{length}
+use Rattle.wire.proofs.SliceLaws.{same-length, compare-end, compare-differ, compare-next}
+use Rattle.wire.specs.Words.{Comparing}
+use borrow.Author.Tests.{not-true, not-false}
 use Prim.Native.Nat.{_-_}
-use Rattle.wire.proofs.SliceLaws.{same-length, Comparing, compare-start, compare-end, compare-differ, compare-next}
+use lib.ListN.{length}
+use native.Mathlib.Omega.{arith}
+use borrow.Author.Needs.{needs}
 use Rattle.wire.proofs.slices.same_bytes.Statement.{statement}
 use Rattle.wire.proofs.slices.same_bytes.Tie as tie
 
@@ -15,20 +17,23 @@ abbrev μ-loop : tie.MeasureT-loop
 returns : tie.Need-returns Inv-loop μ-loop
 returns c = same-length _ _ (c .if1 .taken)
 
-loop-holds : tie.Need-loop-holds Inv-loop μ-loop
-loop-holds c = compare-start _ _ (c .if1 .left)
-
-shared-slice-read-if2-2 : tie.Need-shared-slice-read-if2-2 Inv-loop μ-loop
-shared-slice-read-if2-2 c = omega (arith, c .before .before .before .loop .inv .long)
-
 returns-2 : tie.Need-returns-2 Inv-loop μ-loop
-returns-2 c = compare-differ (c .before .before .before .before .loop .inv) (c .before .before .before .loop-test .taken) (c .if2 .taken)
+returns-2 c = c .before .same-eights .ensures .1 (not-true _ (c .if2 .taken))
 
-loop-again : tie.Need-loop-again Inv-loop μ-loop
-loop-again c = compare-next (c .before .before .before .before .loop .inv) (c .before .before .before .loop-test .taken) (c .if2 .left)
+loop-holds : tie.Need-loop-holds Inv-loop μ-loop
+loop-holds c = c .before .same-eights .ensures .0 (not-false _ (c .if2 .left))
+
+shared-slice-read-if3-2 : tie.Need-shared-slice-read-if3-2 Inv-loop μ-loop
+shared-slice-read-if3-2 c = omega (arith, c .before .before .before .loop .inv .long)
 
 returns-3 : tie.Need-returns-3 Inv-loop μ-loop
-returns-3 c = compare-end (c .before .loop .inv) (c .loop-test .left)
+returns-3 c = compare-differ (c .before .before .before .before .loop .inv) (c .before .before .before .loop-test .taken) (c .if3 .taken)
+
+loop-again : tie.Need-loop-again Inv-loop μ-loop
+loop-again c = compare-next (c .before .before .before .before .loop .inv) (c .before .before .before .loop-test .taken) (c .if3 .left)
+
+returns-4 : tie.Need-returns-4 Inv-loop μ-loop
+returns-4 c = compare-end (c .before .loop .inv) (c .loop-test .left)
 
 pub same-bytes-spec : {M : Type 1} → statement M
 same-bytes-spec =
@@ -37,11 +42,14 @@ same-bytes-spec =
     Inv-loop
     μ-loop
     returns
+    (λ c κs. search needs)
+    returns-2
+    (λ c. search needs)
     loop-holds
     (λ c. search needs)
-    shared-slice-read-if2-2
-    returns-2
+    shared-slice-read-if3-2
+    returns-3
     (λ c. search needs)
     (λ c. search needs)
     loop-again
-    returns-3)
+    returns-4)

@@ -1,6 +1,6 @@
 use Rattle.wire.proofs.ShortLaws.{value-number, value-other}
-use Rattle.wire.proofs.cursors.short_value.Statement.{statement}
-use Rattle.wire.proofs.cursors.short_value.Tie as tie
+use Rattle.wire.proofs.quick.short_value.Statement.{statement}
+use Rattle.wire.proofs.quick.short_value.Tie as tie
 
 returns : tie.Need-returns
 returns c = value-number _ _ (c .if1 .taken)

@@ -1,0 +1,22 @@
+use Rattle.wire.proofs.ShortLaws.{field-said}
+use Rattle.wire.specs.Bytes.{byte}
+use borrow.Author.Needs.{needs}
+use Rattle.wire.proofs.quick.short_field.Statement.{statement}
+use Rattle.wire.proofs.quick.short_field.Tie as tie
+
+returns : tie.Need-returns
+unfolding byte
+returns c = field-said _ _ _ _ _ _ (c .before .before .before .wide .ensures .0) (c .before .wide2 .ensures .0) (c .short-value .ensures)
+
+pub short-field-spec : {M : Type 1} → statement M
+short-field-spec =
+    tie.close
+    (tie.spec
+    (λ c. search needs)
+    (λ c κs. search needs)
+    (λ c. search needs)
+    (λ c. search needs)
+    (λ c κs. search needs)
+    (λ c κs. search needs)
+    (λ c. search needs)
+    returns)

@@ -1,0 +1,50 @@
+use Rattle.wire.proofs.SliceLaws.{Striding, stride-start, stride-room, stride-on, stride-end, stride-differs}
+use Prim.Native.Nat.{_-_}
+use mathlib.Core.Path.{refl}
+use native.Mathlib.Omega.{arith}
+use borrow.Author.Needs.{needs}
+use Rattle.wire.proofs.slices.same_eights.Statement.{statement}
+use Rattle.wire.proofs.slices.same_eights.Tie as tie
+
+abbrev Inv-loop : tie.InvT-loop
+Inv-loop a b stop i₀ i = Striding a b stop i
+
+abbrev μ-loop : tie.MeasureT-loop
+μ-loop a b stop i₀ i = stop - i
+
+loop-holds : tie.Need-loop-holds Inv-loop μ-loop
+loop-holds c = stride-start refl (c .before .before .pre)
+
+eight-requires : tie.Need-eight-requires Inv-loop μ-loop
+eight-requires c κs = stride-room (c .before .loop .inv) (c .loop-test .taken)
+
+eight-requires-2 : tie.Need-eight-requires-2 Inv-loop μ-loop
+eight-requires-2 c κs = omega (arith, stride-room (c .before .before .loop .inv) (c .before .loop-test .taken), c .before .before .before .before .before .pre)
+
+returns : tie.Need-returns Inv-loop μ-loop
+returns c = stride-differs (c .before .before .eight .ensures) (c .before .eight2 .ensures) (c .if1 .taken)
+
+add-i : tie.Need-add-i Inv-loop μ-loop
+add-i c = omega (arith, stride-room (c .before .before .before .before .loop .inv) (c .before .before .before .loop-test .taken))
+
+loop-again : tie.Need-loop-again Inv-loop μ-loop
+loop-again c = stride-on (c .before .before .before .before .loop .inv) (c .before .before .before .loop-test .taken) (c .before .before .eight .ensures) (c .before .eight2 .ensures) (c .if1 .left)
+
+returns-2 : tie.Need-returns-2 Inv-loop μ-loop
+returns-2 c = stride-end (c .before .loop .inv) (c .loop-test .left)
+
+pub same-eights-spec : {M : Type 1} → statement M
+same-eights-spec =
+    tie.close
+    (tie.spec
+    Inv-loop
+    μ-loop
+    (λ c. search needs)
+    loop-holds
+    eight-requires
+    eight-requires-2
+    returns
+    add-i
+    (λ c. search needs)
+    loop-again
+    returns-2)
