@@ -22,6 +22,7 @@ use crate::numbers::MODEL_GRAPH;
 use crate::numbers::MODEL_IR_VERSION;
 use crate::numbers::MODEL_OPSET_IMPORT;
 use crate::wholes::has_from;
+use crate::wholes::number_from;
 use crate::wholes::whole;
 use wire::Outline;
 use wire::Refusal;
@@ -56,7 +57,7 @@ pub fn header(model: &[u8], list: &[u8], lists: &mut [u32], seed: u64, o: Outlin
     ensures held { λ _. ⌜ Held (now (model .entry)) seed 0 (now (lists .entry)) (now (lists .exit)) ⌝ }
 {
     let m = whole(model);
-    if !is_ir_version(m.number_from(model, MODEL_IR_VERSION, o.first)) {
+    if !is_ir_version(number_from(model, m, MODEL_IR_VERSION, o.first)) {
         return unheaded(Ruling::BAD_IR_VERSION, m.place_of(model, MODEL_IR_VERSION));
     }
     if !has_from(model, m, MODEL_GRAPH, o.second) {

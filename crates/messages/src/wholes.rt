@@ -1,7 +1,7 @@
 // The model as a message, and whether a message has a field.
 ghost use mathlib.Core.Path.{_≡_};
 ghost use Rattle.wire.specs.Lists.{present};
-ghost use Rattle.wire.specs.Message.{firstOf, message, whole};
+ghost use Rattle.wire.specs.Message.{firstOf, numberOf, message, whole};
 ghost use Rattle.wire.specs.Outline.{Starts};
 ghost use Rattle.messages.specs.Imported.{Outlined};
 use crate::numbers::MODEL_FUNCTIONS;
@@ -47,6 +47,16 @@ pub(crate) fn has_from(model: &[u8], m: Field, number: u64, at: usize) -> bool
     match m.first_from(model, number, at) {
         Sought::Found(_, _) => true,
         Sought::Missing => false,
+    }
+}
+
+pub(crate) fn number_from(model: &[u8], m: Field, number: u64, at: usize) -> u64
+    requires { ⌜ Starts (now model) m number at ⌝ }
+    ensures { λ r. ⌜ r ≡ numberOf number (message (now (model .entry)) m) ⌝ }
+{
+    match m.first_from(model, number, at) {
+        Sought::Found(f, _) => f.value,
+        Sought::Missing => 0,
     }
 }
 

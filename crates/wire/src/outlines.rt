@@ -1,7 +1,6 @@
 // One reading of a message that several rules look into: where the first field of each of six numbers stands.
 ghost use mathlib.Core.Path.{_≡_};
-ghost use Rattle.wire.specs.Message.{firstOf, numberOf, message};
-ghost use Rattle.wire.specs.Answers.{foundSays};
+ghost use Rattle.wire.specs.Answers.{soughtSays, soughtIn};
 ghost use Rattle.wire.specs.Outline.{Starts, marked};
 use crate::Cursor;
 use crate::Field;
@@ -66,25 +65,14 @@ impl Field {
         }
     }
 
-    // `first_of` and `number_of`, from where an outline says that they begin.
+    // The first field with this number, from a place of the message on.
     pub fn first_from(self, s: &[u8], number: u64, at: usize) -> Sought
-        requires { ⌜ Starts (now s) self number at ⌝ }
-        ensures { λ r. ⌜ foundSays r ≡ firstOf number (message (now (s .entry)) self) ⌝ }
+        ensures { λ r. ⌜ soughtSays r ≡ soughtIn (now (s .entry)) number (self .next) at ⌝ }
     {
         let here = Cursor {
             at: at,
             end: self.next,
         };
         here.next_of(s, number)
-    }
-
-    pub fn number_from(self, s: &[u8], number: u64, at: usize) -> u64
-        requires { ⌜ Starts (now s) self number at ⌝ }
-        ensures { λ r. ⌜ r ≡ numberOf number (message (now (s .entry)) self) ⌝ }
-    {
-        match self.first_from(s, number, at) {
-            Sought::Found(f, _) => f.value,
-            Sought::Missing => 0,
-        }
     }
 }

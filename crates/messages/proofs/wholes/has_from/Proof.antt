@@ -1,3 +1,4 @@
+use Rattle.wire.proofs.OutlineLaws.{started-first}
 use Rattle.wire.proofs.MessageLaws.{missing, found}
 use Rattle.messages.proofs.HeaderLaws.{has-none, has-some}
 use borrow.Author.Needs.{needs}
@@ -5,10 +6,10 @@ use Rattle.messages.proofs.wholes.has_from.Statement.{statement}
 use Rattle.messages.proofs.wholes.has_from.Tie as tie
 
 returns : tie.Need-returns
-returns c = has-some (found _ _ _ _ (c .before .before .first-from .ensures) (c .enum-told .given .1))
+returns c = has-some (found _ _ _ _ (started-first _ _ _ (c .before .before .before .before .pre) _ (c .before .before .first-from .ensures)) (c .enum-told .given .1))
 
 returns-2 : tie.Need-returns-2
-returns-2 c = has-none (missing _ _ _ _ (c .before .before .first-from .ensures) (c .enum-told2 .given .1))
+returns-2 c = has-none (missing _ _ _ _ (started-first _ _ _ (c .before .before .before .before .pre) _ (c .before .before .first-from .ensures)) (c .enum-told2 .given .1))
 
 pub has-from-spec : {M : Type 1} → statement M
 has-from-spec =
