@@ -11,7 +11,7 @@ use borrow.Rule.Slice.PartMut.{putMid}
 use Rattle.wire.specs.Outcome.{Judged, refused}
 use Rattle.wire.specs.Bytes.{Bytes}
 use Rattle.rules.specs.Verdict.{Counts}
-use Rattle.index.specs.Table.{newest, Indexed}
+use Rattle.index.specs.Table.{Indexed}
 use Rattle.index.specs.Memory.{known, tableOf}
 use Rattle.index.specs.Listing.{Held}
 use Rattle.index.proofs.UseLaws.{indexed-none}
@@ -20,7 +20,7 @@ use Rattle.messages.specs.Imported.{Imported, holds}
 use Rattle.messages.specs.declared.imports.Imports.{Imports}
 use Rattle.messages.specs.declared.imports.Heading.{Heading}
 use Rattle.messages.specs.declared.imports.Heading.the-variants as heading
-use Rattle.scope.specs.Recall.{Recalls, Remembering, Recalling, Minds}
+use Rattle.scope.specs.Recall.{Recalls, Recalling, Minds}
 use Rattle.scope.specs.declared.remembered.Index.{Index}
 use Rattle.scope.proofs.RecallLaws.{recalls-none}
 use Rattle.scope.proofs.SplitLaws.{others-lent, put-others, take-first, drop-first}

@@ -5,13 +5,13 @@ use mathlib.Core.Path.{_≡_, refl, sym, ap, subst, _∙_}
 use mathlib.Core.Bool.{Bool, true, false, _||_}
 use mathlib.Core.List.{List, [], _∷_}
 use lib.ListN.{length, length-drop}
-use lib.Dec.{T, eqb, leb}
-use borrow.Author.Tests.{eqb-true, eqb-false, le-leb, eq-eqb, ne-eqb}
+use lib.Dec.{T, eqb}
+use borrow.Author.Tests.{le-leb, eq-eqb, ne-eqb}
 use Rattle.wire.specs.Lists.{isEmpty}
 use Rattle.wire.specs.Bytes.{Bytes, same, member}
 use Rattle.index.specs.Table.{nameOf, namesIn, seek, since, Indexed, Stays}
 use Rattle.index.specs.Memory.{known, tableOf, Remembers, Remembered}
-use Rattle.index.specs.Listing.{Listed, Held, With, Added}
+use Rattle.index.specs.Listing.{Listed, Held, Added}
 use Rattle.index.specs.declared.listings.Listing.{Listing}
 use Rattle.index.specs.declared.Found.the-variants as found
 use Rattle.index.proofs.TableLaws.{names-length}

@@ -14,7 +14,6 @@ use Rattle.wire.specs.declared.Refusal.{Refusal}
 use Rattle.wire.specs.declared.Field.{Field}
 use Rattle.wire.specs.declared.outlines.Outline.{Outline}
 use Rattle.wire.specs.Outline.{Starts}
-use Rattle.wire.specs.declared.Sought.the-variants as sought
 use Rattle.wire.proofs.Lists.{no-first}
 use Rattle.wire.proofs.Passing.{pass-same, passed-bind, passed-seq}
 use Rattle.wire.proofs.Refusing.{when-broken, when-kept}

@@ -13,7 +13,7 @@ use Rattle.operators.specs.Operators.{onnx, domain}
 use Rattle.schema.specs.Numbers.{OperatorSetId·domain}
 use Rattle.index.specs.Table.{namesIn, seek, since, Indexed}
 use Rattle.index.specs.Memory.{known, tableOf}
-use Rattle.index.specs.Listing.{Listed, Held, Added}
+use Rattle.index.specs.Listing.{Held, Added}
 use Rattle.index.specs.declared.listings.Listing.{Listing}
 use Rattle.index.proofs.ListingLaws.{held-all, listed-held, listed-as, same-empty}
 use Rattle.messages.specs.Imports.{importOf}

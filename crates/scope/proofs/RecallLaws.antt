@@ -1,10 +1,10 @@
 -- A scope of which extra cells remember names.
-use Prim.Native.Nat.{ℕ, zero, suc, _+_, _-_, _*_, _/_, _≤_, _<_, min}
+use Prim.Native.Nat.{ℕ, zero, suc, _-_, _≤_, _<_}
 use native.Mathlib.Omega.{arith}
 use mathlib.Core.Path.{_≡_, refl, sym, ap, subst, _∙_}
-use mathlib.Core.Bool.{Bool, true, false, _||_}
+use mathlib.Core.Bool.{Bool, _||_}
 use mathlib.Core.List.{List}
-use lib.ListN.{length, take, drop, getD, set, replicate}
+use lib.ListN.{length, drop, getD, set, replicate}
 use lib.Seq.{getD-set-same, getD-set-other}
 use Rattle.wire.specs.Bytes.{Bytes, same, member}
 use Rattle.wire.specs.Message.{text}
@@ -20,7 +20,7 @@ use Rattle.messages.proofs.ListedLaws.{imported-held}
 use Rattle.rules.specs.Names.{Name, nameIn}
 use Rattle.rules.specs.Walk.{visible}
 use Rattle.scope.specs.Scope.{nameAt, scopeIn}
-use Rattle.scope.specs.Recall.{Recalls, Remembering, Recalling, RememberedOn, AddedOn, Recalled, Minded, Minds}
+use Rattle.scope.specs.Recall.{Recalls, Recalling, RememberedOn, AddedOn, Recalled, Minded, Minds}
 use Rattle.scope.specs.declared.remembered.Index.{Index}
 use Rattle.scope.proofs.ScopeLaws.{Searching}
 

@@ -1,9 +1,9 @@
 -- The extra cells in two parts, each lent alone: the first `split` of them, and the others.
 use Prim.Native.Nat.{ℕ, _+_, _-_, _≤_}
 use native.Mathlib.Omega.{arith}
-use mathlib.Core.Path.{_≡_, refl, sym, ap, subst, _∙_}
-use mathlib.Core.List.{List, [], _++_, append-nil}
-use lib.ListN.{length, take, drop, length-append, length-drop, length-take, drop-of-length-le}
+use mathlib.Core.Path.{_≡_, sym, ap, subst, _∙_}
+use mathlib.Core.List.{List, _++_, append-nil}
+use lib.ListN.{length, take, drop, length-append, length-drop, drop-of-length-le}
 use lib.Seq.{length-take-le, take-all, take-append-seam, drop-append-seam}
 use borrow.Rule.Slice.PartMut.{putMid}
 use Rattle.wire.specs.declared.Field.{Field}

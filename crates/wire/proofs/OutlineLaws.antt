@@ -6,8 +6,8 @@ use mathlib.Core.Bool.{Bool, true, false}
 use mathlib.Core.List.{List, [], _∷_}
 use mathlib.Core.Option.{Option, none, some}
 use lib.Dec.{eqb, ltb}
-use borrow.Author.Tests.{ltb-true, ltb-false, eqb-true, lt-ltb, le-ltb, eq-eqb, ne-eqb}
-use Rattle.wire.specs.Outcome.{pass, fail}
+use borrow.Author.Tests.{ltb-true, ltb-false, lt-ltb, le-ltb, eq-eqb, ne-eqb}
+use Rattle.wire.specs.Outcome.{pass}
 use Rattle.wire.specs.Lists.{first, keep}
 use Rattle.wire.specs.Bytes.{Bytes}
 use Rattle.wire.specs.Wire.{field, fields}

@@ -1,12 +1,12 @@
 -- What is read with few tests is what is read.
-use Prim.Native.Nat.{ℕ, min, _+_, _-_, _*_, _/_, _%_, _^_, _≤_, _<_}
+use Prim.Native.Nat.{ℕ, _+_, _-_, _*_, _/_, _%_, _≤_, _<_}
 use native.Mathlib.Omega.{arith}
 use mathlib.Core.Path.{_≡_, refl, sym, ap, _∙_}
 use mathlib.Core.Logic.{inr}
 use mathlib.Core.Bool.{Bool, true, false, _||_}
 use lib.Dec.{eqb}
 use borrow.Author.Tests.{ne-eqb}
-use Rattle.wire.specs.Outcome.{pass, fail, _>>=_, _>>_, Judged, refuse_at:_when:_}
+use Rattle.wire.specs.Outcome.{pass, _>>=_, _>>_, Judged, refuse_at:_when:_}
 use Rattle.wire.specs.Lists.{contains}
 use Rattle.wire.specs.Bytes.{Bytes, byte}
 use Rattle.wire.specs.Wire.{varint, tag, sized, value, field}

@@ -2,7 +2,7 @@
 ghost use mathlib.Core.Path.{_≡_};
 ghost use Rattle.wire.specs.Outcome.{refused};
 ghost use Rattle.wire.specs.Wire.{badTag, tag, sized, value, field};
-ghost use Rattle.wire.specs.Answers.{varintSays, tagSays, fieldSays, withCursor, soughtSays, soughtIn};
+ghost use Rattle.wire.specs.Answers.{tagSays, fieldSays, withCursor, soughtSays, soughtIn};
 ghost use Rattle.wire.specs.Lists.{contains};
 ghost use Rattle.wire.specs.Quick.{wires};
 use crate::Cursor;

@@ -5,7 +5,9 @@ use Rattle.gate_c.proofs.onnx_gate_check_indexed.Statement.{statement}
 use Rattle.gate_c.proofs.onnx_gate_check_indexed.Tie as tie
 
 returns : tie.Need-returns
-returns c = (c .in-numbers .ensures ∙ ap outcome (c .before .before .before .before .before .check-indexed .ensures .0), c .before .before .before .before .before .check-indexed .ensures .1)
+returns c =
+    let c5 = c .before .before .before .before .before in
+    (c .in-numbers .ensures ∙ ap outcome (c5 .check-indexed .ensures .0), c5 .check-indexed .ensures .1)
 
 pub onnx-gate-check-indexed-spec : {M : Type 1} → statement M
 onnx-gate-check-indexed-spec =

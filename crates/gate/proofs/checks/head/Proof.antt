@@ -5,10 +5,15 @@ use Rattle.gate.proofs.checks.head.Statement.{statement}
 use Rattle.gate.proofs.checks.head.Tie as tie
 
 header-requires : tie.Need-header-requires
-header-requires c κs = rw (others-lent _ _) (c .before .before .before .before .pre .0, (c .before .before .before .before .pre .1 .0 .lists, c .before .before .before .before .pre .1 .1))
+header-requires c κs =
+    let c4 = c .before .before .before .before in
+    rw (others-lent _ _) (c4 .pre .0, (c4 .pre .1 .0 .lists, c4 .pre .1 .1))
 
 returns : tie.Need-returns
-returns c = (c .before .before .header .ensures .0, (holds-on _ (c .before .before .before .before .before .before .before .args .ix) _ (c .before .before .before .before .before .before .before .pre .1 .0 .fits) _ _ (c .before .before .header .ensures .1 .0), held-on _ (c .before .before .before .before .before .before .before .pre .1 .0 .fits) (c .before .before .header .ensures .1 .1)))
+returns c =
+    let c2 = c .before .before in
+    let c7 = c2 .before .before .before .before .before in
+    (c2 .header .ensures .0, (holds-on _ (c7 .args .ix) _ (c7 .pre .1 .0 .fits) _ _ (c2 .header .ensures .1 .0), held-on _ (c7 .pre .1 .0 .fits) (c2 .header .ensures .1 .1)))
 
 pub head-spec : {M : Type 1} → statement M
 head-spec =

@@ -4,7 +4,12 @@ use Rattle.index.proofs.memories.remember_name.Statement.{statement}
 use Rattle.index.proofs.memories.remember_name.Tie as tie
 
 returns : tie.Need-returns
-returns c = remembered-text (c .before .before .before .before .before .before .before .before .args .name) (c .before .before .before .before .before .lesser .ensures) (c .before .before .before .before .lesser2 .ensures) (c .before .before .remember .ensures)
+returns c =
+    let c2 = c .before .before in
+    let c4 = c2 .before .before in
+    let c5 = c4 .before in
+    let c8 = c5 .before .before .before in
+    remembered-text (c8 .args .name) (c5 .lesser .ensures) (c4 .lesser2 .ensures) (c2 .remember .ensures)
 
 pub remember-name-spec : {M : Type 1} → statement M
 remember-name-spec = tie.close (tie.spec (λ c κs. search needs) (λ c κs. search needs) (λ c. search needs) (λ c. search needs) (λ c. search needs) (λ c κs. search needs) (λ c. search needs) returns)

@@ -14,13 +14,26 @@ loop-holds : tie.Need-loop-holds Inv-loop μ-loop
 loop-holds c = scan-start _ _ _ _
 
 name-of-requires : tie.Need-name-of-requires Inv-loop μ-loop
-name-of-requires c κs = omega (arith, c .before .loop .inv .inside, c .loop-test .taken, c .before .before .before .before .before .pre)
+name-of-requires c κs =
+    let c1 = c .before in
+    let c5 = c1 .before .before .before .before in
+    omega (arith, c1 .loop .inv .inside, c .loop-test .taken, c5 .pre)
 
 returns : tie.Need-returns Inv-loop μ-loop
-returns c = scan-here (c .before .before .before .before .loop .inv) (c .before .before .before .loop-test .taken) (c .before .before .name-of .ensures) (c .before .same-bytes .ensures) (c .if1 .taken)
+returns c =
+    let c1 = c .before in
+    let c2 = c1 .before in
+    let c3 = c2 .before in
+    let c4 = c3 .before in
+    scan-here (c4 .loop .inv) (c3 .loop-test .taken) (c2 .name-of .ensures) (c1 .same-bytes .ensures) (c .if1 .taken)
 
 loop-again : tie.Need-loop-again Inv-loop μ-loop
-loop-again c = scan-next (c .before .before .before .before .loop .inv) (c .before .before .before .loop-test .taken) (c .before .before .name-of .ensures) (c .before .same-bytes .ensures) (c .if1 .left)
+loop-again c =
+    let c1 = c .before in
+    let c2 = c1 .before in
+    let c3 = c2 .before in
+    let c4 = c3 .before in
+    scan-next (c4 .loop .inv) (c3 .loop-test .taken) (c2 .name-of .ensures) (c1 .same-bytes .ensures) (c .if1 .left)
 
 returns-2 : tie.Need-returns-2 Inv-loop μ-loop
 returns-2 c = scan-end (c .before .loop .inv) (c .loop-test .left)

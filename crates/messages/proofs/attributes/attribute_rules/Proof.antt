@@ -10,27 +10,67 @@ use Rattle.messages.proofs.attributes.attribute_rules.Tie as tie
 
 returns : tie.Need-returns
 unfolding attributeRules earlierIn
-returns c = c .misnaming .ensures _ ∙ attribute-nameless _ _ _ (c .before .before .before .read-name .ensures) (c .before .enum-told .given .1)
+returns c =
+    let c1 = c .before in
+    let c3 = c1 .before .before in
+    c .misnaming .ensures _ ∙ attribute-nameless _ _ _ (c3 .read-name .ensures) (c1 .enum-told .given .1)
 
 returns-2 : tie.Need-returns-2
 unfolding attributeRules earlierIn
-returns-2 c = c .refused .ensures ∙ attribute-twice _ _ _ (c .before .before .before .before .before .before .before .read-name .ensures) (c .before .before .before .before .before .naming .given .1) (c .before .before .before .text .ensures) (c .before .before .is-listed .ensures) (c .before .if1 .taken)
+returns-2 c =
+    let c1 = c .before in
+    let c2 = c1 .before in
+    let c3 = c2 .before in
+    let c5 = c3 .before .before in
+    let c7 = c5 .before .before in
+    c .refused .ensures ∙ attribute-twice _ _ _ (c7 .read-name .ensures) (c5 .naming .given .1) (c3 .text .ensures) (c2 .is-listed .ensures) (c1 .if1 .taken)
 
 returns-3 : tie.Need-returns-3
 unfolding attributeRules earlierIn
-returns-3 c = c .refused2 .ensures ∙ attribute-refers _ _ _ (c .before .before .before .before .before .before .before .before .before .read-name .ensures) (c .before .before .before .before .before .before .before .naming .given .1) (c .before .before .before .before .before .text .ensures) (c .before .before .before .before .is-listed .ensures) (c .before .before .before .if1 .left) (c .before .before .bytes-of .ensures) (c .before .if2 .taken)
+returns-3 c =
+    let c1 = c .before in
+    let c2 = c1 .before in
+    let c3 = c2 .before in
+    let c4 = c3 .before in
+    let c5 = c4 .before in
+    let c7 = c5 .before .before in
+    let c9 = c7 .before .before in
+    c .refused2 .ensures ∙ attribute-refers _ _ _ (c9 .read-name .ensures) (c7 .naming .given .1) (c5 .text .ensures) (c4 .is-listed .ensures) (c3 .if1 .left) (c2 .bytes-of .ensures) (c1 .if2 .taken)
 
 returns-4 : tie.Need-returns-4
 unfolding attributeRules earlierIn
-returns-4 c = c .refused3 .ensures ∙ attribute-bad _ _ _ (c .before .before .before .before .before .before .before .before .before .before .before .read-name .ensures) (c .before .before .before .before .before .before .before .before .before .naming .given .1) (c .before .before .before .before .before .before .before .text .ensures) (c .before .before .before .before .before .before .is-listed .ensures) (c .before .before .before .before .before .if1 .left) (c .before .before .before .before .bytes-of .ensures) (c .before .before .before .if2 .left) (c .before .before .is-bad-value .ensures) (c .before .if3 .taken)
+returns-4 c =
+    let c1 = c .before in
+    let c2 = c1 .before in
+    let c3 = c2 .before in
+    let c4 = c3 .before in
+    let c5 = c4 .before in
+    let c6 = c5 .before in
+    let c7 = c6 .before in
+    let c9 = c7 .before .before in
+    let c11 = c9 .before .before in
+    c .refused3 .ensures ∙ attribute-bad _ _ _ (c11 .read-name .ensures) (c9 .naming .given .1) (c7 .text .ensures) (c6 .is-listed .ensures) (c5 .if1 .left) (c4 .bytes-of .ensures) (c3 .if2 .left) (c2 .is-bad-value .ensures) (c1 .if3 .taken)
 
 returns-5 : tie.Need-returns-5
 unfolding attributeRules earlierIn rulingSays
-returns-5 c = attribute-good _ _ _ (c .before .before .before .before .before .before .before .before .before .before .read-name .ensures) (c .before .before .before .before .before .before .before .before .naming .given .1) (c .before .before .before .before .before .before .text .ensures) (c .before .before .before .before .before .is-listed .ensures) (c .before .before .before .before .if1 .left) (c .before .before .before .bytes-of .ensures) (c .before .before .if2 .left) (c .before .is-bad-value .ensures) (c .if3 .left)
+returns-5 c =
+    let c1 = c .before in
+    let c2 = c1 .before in
+    let c3 = c2 .before in
+    let c4 = c3 .before in
+    let c5 = c4 .before in
+    let c6 = c5 .before in
+    let c8 = c6 .before .before in
+    let c10 = c8 .before .before in
+    attribute-good _ _ _ (c10 .read-name .ensures) (c8 .naming .given .1) (c6 .text .ensures) (c5 .is-listed .ensures) (c4 .if1 .left) (c3 .bytes-of .ensures) (c2 .if2 .left) (c1 .is-bad-value .ensures) (c .if3 .left)
 
 is-listed-requires : tie.Need-is-listed-requires
 unfolding earlierIn
-is-listed-requires c κs = (c .before .before .before .before .before .before .before .pre, rw (c .text .ensures) (named-some _ _ _ _ _ (c .before .before .before .before .read-name .ensures) (c .before .before .naming .given .1)))
+is-listed-requires c κs =
+    let c2 = c .before .before in
+    let c4 = c2 .before .before in
+    let c7 = c4 .before .before .before in
+    (c7 .pre, rw (c .text .ensures) (named-some _ _ _ _ _ (c4 .read-name .ensures) (c2 .naming .given .1)))
 
 pub attribute-rules-spec : {M : Type 1} → statement M
 attribute-rules-spec =

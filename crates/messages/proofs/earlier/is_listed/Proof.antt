@@ -4,10 +4,15 @@ use Rattle.messages.proofs.earlier.is_listed.Statement.{statement}
 use Rattle.messages.proofs.earlier.is_listed.Tie as tie
 
 has-requires : tie.Need-has-requires
-has-requires c κs = (c .before .before .before .before .pre .0 .index, c .before .before .before .before .pre .0 .fits)
+has-requires c κs =
+    let c4 = c .before .before .before .before in
+    (c4 .pre .0 .index, c4 .pre .0 .fits)
 
 returns : tie.Need-returns
-returns c = c .has .ensures ∙ c .before .before .before .before .before .pre .0 .finds (c .before .if1 .taken) _ (c .before .before .before .before .before .pre .1)
+returns c =
+    let c1 = c .before in
+    let c5 = c1 .before .before .before .before in
+    c .has .ensures ∙ c5 .pre .0 .finds (c1 .if1 .taken) _ (c5 .pre .1)
 
 pub is-listed-spec : {M : Type 1} → statement M
 is-listed-spec =

@@ -6,13 +6,25 @@ use Rattle.messages.proofs.earlier.list_name.Statement.{statement}
 use Rattle.messages.proofs.earlier.list_name.Tie as tie
 
 returns : tie.Need-returns
-returns c = added-empty (c .before .before .before .before .before .pre .0) (c .before .before .before .before .before .pre .1 .0) (absent-empty (bytes-missing _ _ _ _ (c .before .before .first-of .ensures) (c .enum-told .given .1)))
+returns c =
+    let c2 = c .before .before in
+    let c5 = c2 .before .before .before in
+    added-empty (c5 .pre .0) (c5 .pre .1 .0) (absent-empty (bytes-missing _ _ _ _ (c2 .first-of .ensures) (c .enum-told .given .1)))
 
 returns-2 : tie.Need-returns-2
-returns-2 c = added-empty (c .before .before .before .before .before .before .before .before .pre .0) (c .before .before .before .before .before .before .before .before .pre .1 .0) (text-empty (c .before .text .ensures) (bytes-found _ _ _ _ (c .before .before .before .before .before .first-of .ensures) (c .before .before .before .name .given .1)) (c .if1 .taken))
+returns-2 c =
+    let c1 = c .before in
+    let c3 = c1 .before .before in
+    let c5 = c3 .before .before in
+    let c8 = c5 .before .before .before in
+    added-empty (c8 .pre .0) (c8 .pre .1 .0) (text-empty (c1 .text .ensures) (bytes-found _ _ _ _ (c5 .first-of .ensures) (c3 .name .given .1)) (c .if1 .taken))
 
 returns-3 : tie.Need-returns-3
-returns-3 c = added-as (bytes-found _ _ _ _ (c .before .before .before .before .before .before .before .before .before .first-of .ensures) (c .before .before .before .before .before .before .before .name .given .1)) (c .before .before .add .ensures)
+returns-3 c =
+    let c2 = c .before .before in
+    let c7 = c2 .before .before .before .before .before in
+    let c9 = c7 .before .before in
+    added-as (bytes-found _ _ _ _ (c9 .first-of .ensures) (c7 .name .given .1)) (c2 .add .ensures)
 
 pub list-name-spec : {M : Type 1} → statement M
 list-name-spec =

@@ -1,7 +1,6 @@
 use mathlib.Core.Path.{refl}
 use Rattle.messages.specs.Answers.{rulingSays}
 use Rattle.messages.specs.Imported.{rulingOf, holds}
-use borrow.Author.Needs.{needs}
 use Rattle.messages.proofs.headers.unheaded.Statement.{statement}
 use Rattle.messages.proofs.headers.unheaded.Tie as tie
 

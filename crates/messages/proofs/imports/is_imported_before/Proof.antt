@@ -22,19 +22,44 @@ loop-holds : tie.Need-loop-holds Inv-loop μ-loop
 loop-holds c = rw (c .contents .ensures ∙ ap contentsOf (c .before .whole .ensures)) (imports-again _ _ _)
 
 returns : tie.Need-returns Inv-loop μ-loop
-returns c = reread-done (c .before .before .before .loop .inv) (c .before .before .next-of .ensures) (c .enum-told .given .1)
+returns c =
+    let c2 = c .before .before in
+    let c3 = c2 .before in
+    reread-done (c3 .loop .inv) (c2 .next-of .ensures) (c .enum-told .given .1)
 
 returns-2 : tie.Need-returns-2 Inv-loop μ-loop
-returns-2 c = reread-past (c .before .before .before .before .before .before .loop .inv) (c .before .before .before .before .before .next-of .ensures) (c .before .before .before .sought .given .1) (c .if1 .taken)
+returns-2 c =
+    let c3 = c .before .before .before in
+    let c5 = c3 .before .before in
+    let c6 = c5 .before in
+    reread-past (c6 .loop .inv) (c5 .next-of .ensures) (c3 .sought .given .1) (c .if1 .taken)
 
 returns-3 : tie.Need-returns-3 Inv-loop μ-loop
-returns-3 c = reread-here (c .before .before .before .before .before .before .before .before .before .loop .inv) (c .before .before .before .before .before .before .before .before .next-of .ensures) (c .before .before .before .before .before .before .sought .given .1) (c .before .before .before .if1 .left) (same-import _ _ _ (c .before .before .bytes-of .ensures) (c .before .same-domain .ensures)) (c .if2 .taken)
+returns-3 c =
+    let c1 = c .before in
+    let c2 = c1 .before in
+    let c3 = c2 .before in
+    let c6 = c3 .before .before .before in
+    let c8 = c6 .before .before in
+    let c9 = c8 .before in
+    reread-here (c9 .loop .inv) (c8 .next-of .ensures) (c6 .sought .given .1) (c3 .if1 .left) (same-import _ _ _ (c2 .bytes-of .ensures) (c1 .same-domain .ensures)) (c .if2 .taken)
 
 loop-less : tie.Need-loop-less Inv-loop μ-loop
-loop-less c = reread-falls (c .before .before .before .before .before .before .before .before .before .loop .inv) (c .before .before .before .before .before .before .before .before .next-of .ensures) (c .before .before .before .before .before .before .sought .given .1)
+loop-less c =
+    let c6 = c .before .before .before .before .before .before in
+    let c8 = c6 .before .before in
+    let c9 = c8 .before in
+    reread-falls (c9 .loop .inv) (c8 .next-of .ensures) (c6 .sought .given .1)
 
 loop-again : tie.Need-loop-again Inv-loop μ-loop
-loop-again c = reread-next (c .before .before .before .before .before .before .before .before .before .loop .inv) (c .before .before .before .before .before .before .before .before .next-of .ensures) (c .before .before .before .before .before .before .sought .given .1) (c .before .before .before .if1 .left) (same-import _ _ _ (c .before .before .bytes-of .ensures) (c .before .same-domain .ensures)) (c .if2 .left)
+loop-again c =
+    let c1 = c .before in
+    let c2 = c1 .before in
+    let c3 = c2 .before in
+    let c6 = c3 .before .before .before in
+    let c8 = c6 .before .before in
+    let c9 = c8 .before in
+    reread-next (c9 .loop .inv) (c8 .next-of .ensures) (c6 .sought .given .1) (c3 .if1 .left) (same-import _ _ _ (c2 .bytes-of .ensures) (c1 .same-domain .ensures)) (c .if2 .left)
 
 pub is-imported-before-spec : {M : Type 1} → statement M
 is-imported-before-spec =

@@ -7,14 +7,31 @@ use Rattle.messages.proofs.imports.opset_import.Statement.{statement}
 use Rattle.messages.proofs.imports.opset_import.Tie as tie
 
 returns : tie.Need-returns
-returns c = c .refused .ensures ∙ import-twice _ _ _ _ (c .before .before .before .bytes-of .ensures) (c .before .before .is-imported .ensures) (c .before .if1 .taken)
+returns c =
+    let c1 = c .before in
+    let c2 = c1 .before in
+    let c3 = c2 .before in
+    c .refused .ensures ∙ import-twice _ _ _ _ (c3 .bytes-of .ensures) (c2 .is-imported .ensures) (c1 .if1 .taken)
 
 returns-2 : tie.Need-returns-2
-returns-2 c = c .refused2 .ensures ∙ import-unlisted _ _ _ _ (c .before .before .before .before .before .before .bytes-of .ensures) (c .before .before .before .before .before .is-imported .ensures) (c .before .before .before .before .if1 .left) (c .before .before .before .number-of .ensures) (c .before .before .allows .ensures) (not-true _ (c .before .if2 .taken))
+returns-2 c =
+    let c1 = c .before in
+    let c2 = c1 .before in
+    let c3 = c2 .before in
+    let c4 = c3 .before in
+    let c5 = c4 .before in
+    let c6 = c5 .before in
+    c .refused2 .ensures ∙ import-unlisted _ _ _ _ (c6 .bytes-of .ensures) (c5 .is-imported .ensures) (c4 .if1 .left) (c3 .number-of .ensures) (c2 .allows .ensures) (not-true _ (c1 .if2 .taken))
 
 returns-3 : tie.Need-returns-3
 unfolding rulingSays
-returns-3 c = import-kept _ _ _ _ (c .before .before .before .before .before .bytes-of .ensures) (c .before .before .before .before .is-imported .ensures) (c .before .before .before .if1 .left) (c .before .before .number-of .ensures) (c .before .allows .ensures) (not-false _ (c .if2 .left))
+returns-3 c =
+    let c1 = c .before in
+    let c2 = c1 .before in
+    let c3 = c2 .before in
+    let c4 = c3 .before in
+    let c5 = c4 .before in
+    import-kept _ _ _ _ (c5 .bytes-of .ensures) (c4 .is-imported .ensures) (c3 .if1 .left) (c2 .number-of .ensures) (c1 .allows .ensures) (not-false _ (c .if2 .left))
 
 pub opset-import-spec : {M : Type 1} → statement M
 opset-import-spec =

@@ -2,7 +2,6 @@ use Rattle.messages.proofs.HeaderLaws.{headed-same, headed-holds}
 use Prim.Native.Nat.{_-_}
 use mathlib.Core.Path.{ap, _∙_}
 use lib.ListN.{length}
-use Rattle.wire.specs.Answers.{contentsOf}
 use Rattle.messages.specs.Answers.{rulingSays}
 use Rattle.messages.specs.Imported.{rulingOf, headed, holds}
 use Rattle.messages.proofs.ImportLaws.{import-falls, importing-end, importing-stops, Keeping, keeping-start, keeping-end, keeping-before, keeping-goes}
@@ -17,26 +16,55 @@ abbrev μ-loop : tie.MeasureT-loop
 μ-loop model list lists₀ seed at c₀ imports₀ lists c imports = length model - c .at
 
 loop-holds : tie.Need-loop-holds Inv-loop μ-loop
-loop-holds c = keeping-start _ _ _ (c .before .before .before .pre .0) (c .before .before .before .pre .1 .0)
+loop-holds c =
+    let c3 = c .before .before .before in
+    keeping-start _ _ _ (c3 .pre .0) (c3 .pre .1 .0)
 
 returns : tie.Need-returns Inv-loop μ-loop
 unfolding rulingSays rulingOf holds
-returns c = (importing-end (c .before .before .before .loop .inv .importing) (c .before .before .next-of .ensures) (c .enum-told .given .1), (keeping-end (c .before .before .before .loop .inv) (c .before .before .next-of .ensures) (c .enum-told .given .1), c .before .before .before .loop .inv .held))
+returns c =
+    let c2 = c .before .before in
+    let c3 = c2 .before in
+    (importing-end (c3 .loop .inv .importing) (c2 .next-of .ensures) (c .enum-told .given .1), (keeping-end (c3 .loop .inv) (c2 .next-of .ensures) (c .enum-told .given .1), c3 .loop .inv .held))
 
 opset-import-requires : tie.Need-opset-import-requires Inv-loop μ-loop
-opset-import-requires c κs = keeping-before (c .before .before .before .before .before .loop .inv) (c .before .before .before .before .next-of .ensures) (c .before .before .sought .given .1)
+opset-import-requires c κs =
+    let c2 = c .before .before in
+    let c4 = c2 .before .before in
+    let c5 = c4 .before in
+    keeping-before (c5 .loop .inv) (c4 .next-of .ensures) (c2 .sought .given .1)
 
 returns-2 : tie.Need-returns-2 Inv-loop μ-loop
-returns-2 c = (ap rulingSays (headed-same _ _ (c .headed .ensures)) ∙ importing-stops (c .before .before .before .before .before .before .before .before .before .loop .inv .importing) (c .before .before .before .before .before .before .before .before .next-of .ensures) (c .before .before .before .before .before .before .sought .given .1) _ (c .before .before .before .opset-import .ensures) (c .before .enum-told3 .given .1), (headed-holds _ _ (c .headed .ensures) (c .before .enum-told3 .given .1) _ _ _, c .before .before .before .before .before .before .before .before .before .loop .inv .held))
+returns-2 c =
+    let c1 = c .before in
+    let c3 = c1 .before .before in
+    let c6 = c3 .before .before .before in
+    let c8 = c6 .before .before in
+    let c9 = c8 .before in
+    (ap rulingSays (headed-same _ _ (c .headed .ensures)) ∙ importing-stops (c9 .loop .inv .importing) (c8 .next-of .ensures) (c6 .sought .given .1) _ (c3 .opset-import .ensures) (c1 .enum-told3 .given .1), (headed-holds _ _ (c .headed .ensures) (c1 .enum-told3 .given .1) _ _ _, c9 .loop .inv .held))
 
 list-import-requires : tie.Need-list-import-requires Inv-loop μ-loop
-list-import-requires c κs = (c .before .before .before .before .before .before .before .before .before .loop .inv .imported .listed .index, (c .before .before .before .before .before .before .before .before .before .loop .inv .imported .listed .fits, c .before .before .before .before .before .before .before .before .before .before .before .before .before .pre .1 .1))
+list-import-requires c κs =
+    let c9 = c .before .before .before .before .before .before .before .before .before in
+    let c13 = c9 .before .before .before .before in
+    (c9 .loop .inv .imported .listed .index, (c9 .loop .inv .imported .listed .fits, c13 .pre .1 .1))
 
 loop-less : tie.Need-loop-less Inv-loop μ-loop
-loop-less c = import-falls _ _ (c .before .before .before .before .before .before .before .before .before .before .before .before .loop .inv .importing .ends) (c .before .before .before .before .before .before .before .before .before .before .before .next-of .ensures) (c .before .before .before .before .before .before .before .before .before .sought .given .1)
+loop-less c =
+    let c9 = c .before .before .before .before .before .before .before .before .before in
+    let c11 = c9 .before .before in
+    let c12 = c11 .before in
+    import-falls _ _ (c12 .loop .inv .importing .ends) (c11 .next-of .ensures) (c9 .sought .given .1)
 
 loop-again : tie.Need-loop-again Inv-loop μ-loop
-loop-again c = keeping-goes (c .before .before .before .before .before .before .before .before .before .before .before .before .loop .inv) (c .before .before .before .before .before .before .before .before .before .before .before .next-of .ensures) (c .before .before .before .before .before .before .before .before .before .sought .given .1) _ (c .before .before .before .before .before .before .opset-import .ensures) (c .before .before .before .before .enum-told2 .given .1) (c .before .before .list-import .ensures)
+loop-again c =
+    let c2 = c .before .before in
+    let c4 = c2 .before .before in
+    let c6 = c4 .before .before in
+    let c9 = c6 .before .before .before in
+    let c11 = c9 .before .before in
+    let c12 = c11 .before in
+    keeping-goes (c12 .loop .inv) (c11 .next-of .ensures) (c9 .sought .given .1) _ (c6 .opset-import .ensures) (c4 .enum-told2 .given .1) (c2 .list-import .ensures)
 
 pub opset-imports-spec : {M : Type 1} → statement M
 opset-imports-spec =

@@ -4,7 +4,9 @@ use Rattle.scope.proofs.nodes.attribute_head.Statement.{statement}
 use Rattle.scope.proofs.nodes.attribute_head.Tie as tie
 
 attribute-rules-requires : tie.Need-attribute-rules-requires
-attribute-rules-requires c κs = rw (others-lent _ _) (c .before .before .before .pre .1)
+attribute-rules-requires c κs =
+    let c3 = c .before .before .before in
+    rw (others-lent _ _) (c3 .pre .1)
 
 pub attribute-head-spec : {M : Type 1} → statement M
 attribute-head-spec =

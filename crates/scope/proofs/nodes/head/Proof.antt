@@ -4,7 +4,9 @@ use Rattle.scope.proofs.nodes.head.Statement.{statement}
 use Rattle.scope.proofs.nodes.head.Tie as tie
 
 node-head-requires : tie.Need-node-head-requires
-node-head-requires c κs = rw (others-lent _ _) (c .before .before .before .before .pre .1)
+node-head-requires c κs =
+    let c4 = c .before .before .before .before in
+    rw (others-lent _ _) (c4 .pre .1)
 
 pub head-spec : {M : Type 1} → statement M
 head-spec =

@@ -8,10 +8,15 @@ returns : tie.Need-returns
 returns c = rules-headed _ _ _ _ _ (c .before .before .head .ensures) (c .enum-told2 .given .1)
 
 returns-2 : tie.Need-returns-2
-returns-2 c = c .node-inputs .ensures ∙ rules-inputs _ _ _ _ _ (c .before .before .before .head .ensures) (c .before .enum-told .given .1)
+returns-2 c =
+    let c1 = c .before in
+    let c3 = c1 .before .before in
+    c .node-inputs .ensures ∙ rules-inputs _ _ _ _ _ (c3 .head .ensures) (c1 .enum-told .given .1)
 
 head-requires : tie.Need-head-requires
-head-requires c κs = (c .before .before .before .pre .0 .both .fits, c .before .before .before .pre .1)
+head-requires c κs =
+    let c3 = c .before .before .before in
+    (c3 .pre .0 .both .fits, c3 .pre .1)
 
 pub node-rules-spec : {M : Type 1} → statement M
 node-rules-spec =

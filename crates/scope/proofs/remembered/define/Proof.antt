@@ -8,17 +8,37 @@ use Rattle.scope.proofs.remembered.define.Statement.{statement}
 use Rattle.scope.proofs.remembered.define.Tie as tie
 
 returns : tie.Need-returns
-returns c = (c .stopped .ensures .0 _ _ ∙ define-twice _ _ _ _ _ (text-there _ _ (c .before .before .before .before .before .before .before .before .before .pre .1 .0) (c .before .before .before .text .ensures)) _ (c .before .before .sees .ensures) (c .before .if1 .taken), (c .stopped .ensures .1 _, (keeps-all _ _, recalled-none (c .before .before .before .before .before .before .before .before .before .pre .1 .1 .1))))
+returns c =
+    let c1 = c .before in
+    let c2 = c1 .before in
+    let c3 = c2 .before in
+    let c9 = c3 .before .before .before .before .before .before in
+    (c .stopped .ensures .0 _ _ ∙ define-twice _ _ _ _ _ (text-there _ _ (c9 .pre .1 .0) (c3 .text .ensures)) _ (c2 .sees .ensures) (c1 .if1 .taken), (c .stopped .ensures .1 _, (keeps-all _ _, recalled-none (c9 .pre .1 .1 .1))))
 
 returns-2 : tie.Need-returns-2
-returns-2 c = (c .stopped2 .ensures .0 _ _ ∙ define-full _ _ _ _ _ (text-there _ _ (c .before .before .before .before .before .before .before .before .before .before .pre .1 .0) (c .before .before .before .before .text .ensures)) _ (c .before .before .before .sees .ensures) (c .before .before .if1 .left) (c .before .if2 .taken), (c .stopped2 .ensures .1 _, (keeps-all _ _, recalled-none (c .before .before .before .before .before .before .before .before .before .before .pre .1 .1 .1))))
+returns-2 c =
+    let c1 = c .before in
+    let c2 = c1 .before in
+    let c3 = c2 .before in
+    let c4 = c3 .before in
+    let c10 = c4 .before .before .before .before .before .before in
+    (c .stopped2 .ensures .0 _ _ ∙ define-full _ _ _ _ _ (text-there _ _ (c10 .pre .1 .0) (c4 .text .ensures)) _ (c3 .sees .ensures) (c2 .if1 .left) (c1 .if2 .taken), (c .stopped2 .ensures .1 _, (keeps-all _ _, recalled-none (c10 .pre .1 .1 .1))))
 
 remember-requires : tie.Need-remember-requires
-remember-requires c κs = (c .before .before .before .before .before .before .before .before .before .before .pre .1 .1 .1 .both, c .before .before .before .before .before .before .before .before .before .before .pre .1 .1 .0)
+remember-requires c κs =
+    let c10 = c .before .before .before .before .before .before .before .before .before .before in
+    (c10 .pre .1 .1 .1 .both, c10 .pre .1 .1 .0)
 
 returns-3 : tie.Need-returns-3
 unfolding grows
-returns-3 c = (define-new _ _ _ _ _ (text-there _ _ (c .before .before .before .before .before .before .before .before .before .before .before .before .before .before .pre .1 .0) (c .before .before .before .before .before .before .before .before .text .ensures)) _ (c .before .before .before .before .before .before .before .sees .ensures) (c .before .before .before .before .before .before .if1 .left) _ (c .larger .ensures) (c .before .before .before .before .before .if2 .left), (omega arith, (keeps-set _ _ _, recalled-more (c .before .before .before .before .before .before .before .before .before .before .before .before .before .before .pre .1 .1 .1) _ (c .before .before .before .before .before .if2 .left) (c .before .before .before .before .before .before .before .before .before .before .before .before .before .before .args .name) (c .before .before .before .before .before .before .before .before .before .before .before .before .before .before .pre .1 .0) (c .before .before .before .remember .ensures))))
+returns-3 c =
+    let c3 = c .before .before .before in
+    let c5 = c3 .before .before in
+    let c6 = c5 .before in
+    let c7 = c6 .before in
+    let c8 = c7 .before in
+    let c14 = c8 .before .before .before .before .before .before in
+    (define-new _ _ _ _ _ (text-there _ _ (c14 .pre .1 .0) (c8 .text .ensures)) _ (c7 .sees .ensures) (c6 .if1 .left) _ (c .larger .ensures) (c5 .if2 .left), (omega arith, (keeps-set _ _ _, recalled-more (c14 .pre .1 .1 .1) _ (c5 .if2 .left) (c14 .args .name) (c14 .pre .1 .0) (c3 .remember .ensures))))
 
 pub define-spec : {M : Type 1} → statement M
 define-spec =

@@ -5,10 +5,14 @@ use Rattle.scope.proofs.remembered.sees.Statement.{statement}
 use Rattle.scope.proofs.remembered.sees.Tie as tie
 
 slice-aggregate-sees-in : tie.Need-slice-aggregate-sees-in
-slice-aggregate-sees-in c = sym (length-take-le _ _ (c .before .before .before .before .before .pre .both .fits))
+slice-aggregate-sees-in c =
+    let c5 = c .before .before .before .before .before in
+    sym (length-take-le _ _ (c5 .pre .both .fits))
 
 sees-in-requires : tie.Need-sees-in-requires
-sees-in-requires c κs = c .before .before .before .before .before .pre .scope
+sees-in-requires c κs =
+    let c5 = c .before .before .before .before .before in
+    c5 .pre .scope
 
 pub sees-spec : {M : Type 1} → statement M
 sees-spec =

@@ -7,15 +7,26 @@ use Rattle.wire.proofs.Cursor.any_tag.Tie as tie
 
 returns : tie.Need-returns
 unfolding tagSays
-returns c = tag-bad _ _ _ (c .before .before .before .before .before .read-varint .ensures) (c .before .before .before .v .given .1) (sym (c .before .is-bad-tag .ensures) ∙ c .if1 .taken)
+returns c =
+    let c1 = c .before in
+    let c3 = c1 .before .before in
+    let c5 = c3 .before .before in
+    tag-bad _ _ _ (c5 .read-varint .ensures) (c3 .v .given .1) (sym (c1 .is-bad-tag .ensures) ∙ c .if1 .taken)
 
 returns-2 : tie.Need-returns-2
 unfolding tagSays
-returns-2 c = tag-refused _ _ _ (c .before .before .before .read-varint .ensures) (c .before .r .given .1)
+returns-2 c =
+    let c1 = c .before in
+    let c3 = c1 .before .before in
+    tag-refused _ _ _ (c3 .read-varint .ensures) (c1 .r .given .1)
 
 returns-3 : tie.Need-returns-3
 unfolding tagSays
-returns-3 c = tag-read _ _ _ (c .before .before .before .before .before .read-varint .ensures) (c .before .before .before .v .given .1) (sym (c .before .is-bad-tag .ensures) ∙ c .if1 .left)
+returns-3 c =
+    let c1 = c .before in
+    let c3 = c1 .before .before in
+    let c5 = c3 .before .before in
+    tag-read _ _ _ (c5 .read-varint .ensures) (c3 .v .given .1) (sym (c1 .is-bad-tag .ensures) ∙ c .if1 .left)
 
 pub any-tag-spec : {M : Type 1} → statement M
 any-tag-spec =

@@ -7,10 +7,16 @@ use Rattle.wire.proofs.Cursor.field.Statement.{statement}
 use Rattle.wire.proofs.Cursor.field.Tie as tie
 
 returns : tie.Need-returns
-returns c = says fieldSays (c .before .before .before .quick-field .ensures) (c .before .r .given .1)
+returns c =
+    let c1 = c .before in
+    let c3 = c1 .before .before in
+    says fieldSays (c3 .quick-field .ensures) (c1 .r .given .1)
 
 returns-2 : tie.Need-returns-2
-returns-2 c = says fieldSays (c .before .before .before .quick-field .ensures) (c .before .f .given .1)
+returns-2 c =
+    let c1 = c .before in
+    let c3 = c1 .before .before in
+    says fieldSays (c3 .quick-field .ensures) (c1 .f .given .1)
 
 add-next : tie.Need-add-next
 add-next c = let q = c .before .short-size .ensures (omega arith) .inside in record { fits = omega arith }

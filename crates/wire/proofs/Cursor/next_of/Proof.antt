@@ -22,33 +22,87 @@ returns c = seek-done (c .before .loop .inv) (c .if1 .taken)
 
 returns-2 : tie.Need-returns-2 Inv-loop μ-loop
 unfolding soughtSays
-returns-2 c = seek-found (c .before .before .before .before .before .before .before .before .before .loop .inv) (c .before .before .before .before .before .before .before .before .if1 .left) (quick-answer (c .before .before .before .before .before .before .before .quick-tag .ensures (c .before .before .before .before .before .if2 .taken)) (c .before .before .before .before .quick-value .ensures (c .before .before .if3 .taken))) refl (c .if4 .taken)
+returns-2 c =
+    let c2 = c .before .before in
+    let c4 = c2 .before .before in
+    let c5 = c4 .before in
+    let c7 = c5 .before .before in
+    let c8 = c7 .before in
+    let c9 = c8 .before in
+    seek-found (c9 .loop .inv) (c8 .if1 .left) (quick-answer (c7 .quick-tag .ensures (c5 .if2 .taken)) (c4 .quick-value .ensures (c2 .if3 .taken))) refl (c .if4 .taken)
 
 loop-less : tie.Need-loop-less Inv-loop μ-loop
-loop-less c = seek-falls (c .before .before .before .before .before .before .before .before .before .loop .inv) (c .before .before .before .before .before .before .before .before .if1 .left) (quick-answer (c .before .before .before .before .before .before .before .quick-tag .ensures (c .before .before .before .before .before .if2 .taken)) (c .before .before .before .before .quick-value .ensures (c .before .before .if3 .taken))) refl
+loop-less c =
+    let c2 = c .before .before in
+    let c4 = c2 .before .before in
+    let c5 = c4 .before in
+    let c7 = c5 .before .before in
+    let c8 = c7 .before in
+    let c9 = c8 .before in
+    seek-falls (c9 .loop .inv) (c8 .if1 .left) (quick-answer (c7 .quick-tag .ensures (c5 .if2 .taken)) (c4 .quick-value .ensures (c2 .if3 .taken))) refl
 
 loop-again : tie.Need-loop-again Inv-loop μ-loop
-loop-again c = seek-next (c .before .before .before .before .before .before .before .before .before .loop .inv) (c .before .before .before .before .before .before .before .before .if1 .left) (quick-answer (c .before .before .before .before .before .before .before .quick-tag .ensures (c .before .before .before .before .before .if2 .taken)) (c .before .before .before .before .quick-value .ensures (c .before .before .if3 .taken))) refl (c .if4 .left)
+loop-again c =
+    let c2 = c .before .before in
+    let c4 = c2 .before .before in
+    let c5 = c4 .before in
+    let c7 = c5 .before .before in
+    let c8 = c7 .before in
+    let c9 = c8 .before in
+    seek-next (c9 .loop .inv) (c8 .if1 .left) (quick-answer (c7 .quick-tag .ensures (c5 .if2 .taken)) (c4 .quick-value .ensures (c2 .if3 .taken))) refl (c .if4 .left)
 
 loop-less-2 : tie.Need-loop-less-2 Inv-loop μ-loop
-loop-less-2 c = seek-falls (c .before .before .before .before .before .before .before .before .before .before .before .loop .inv) (c .before .before .before .before .before .before .before .before .before .before .if1 .left) (quick-answer (c .before .before .before .before .before .before .before .before .before .quick-tag .ensures (c .before .before .before .before .before .before .before .if2 .taken)) (long-value (c .before .before .before .long-end .ensures (c .before .before .if5 .taken)) refl)) refl
+loop-less-2 c =
+    let c2 = c .before .before in
+    let c3 = c2 .before in
+    let c7 = c3 .before .before .before .before in
+    let c9 = c7 .before .before in
+    let c10 = c9 .before in
+    let c11 = c10 .before in
+    seek-falls (c11 .loop .inv) (c10 .if1 .left) (quick-answer (c9 .quick-tag .ensures (c7 .if2 .taken)) (long-value (c3 .long-end .ensures (c2 .if5 .taken)) refl)) refl
 
 loop-again-2 : tie.Need-loop-again-2 Inv-loop μ-loop
-loop-again-2 c = seek-next (c .before .before .before .before .before .before .before .before .before .before .before .loop .inv) (c .before .before .before .before .before .before .before .before .before .before .if1 .left) (quick-answer (c .before .before .before .before .before .before .before .before .before .quick-tag .ensures (c .before .before .before .before .before .before .before .if2 .taken)) (long-value (c .before .before .before .long-end .ensures (c .before .before .if5 .taken)) refl)) refl (c .if6 .taken)
+loop-again-2 c =
+    let c2 = c .before .before in
+    let c3 = c2 .before in
+    let c7 = c3 .before .before .before .before in
+    let c9 = c7 .before .before in
+    let c10 = c9 .before in
+    let c11 = c10 .before in
+    seek-next (c11 .loop .inv) (c10 .if1 .left) (quick-answer (c9 .quick-tag .ensures (c7 .if2 .taken)) (long-value (c3 .long-end .ensures (c2 .if5 .taken)) refl)) refl (c .if6 .taken)
 
 returns-3 : tie.Need-returns-3 Inv-loop μ-loop
 unfolding soughtSays
-returns-3 c = seek-stop (c .before .before .before .before .before .before .before .loop .inv) (c .before .before .before .before .before .before .if1 .left) (c .before .before .quick-field .ensures) (c .enum-told .given .1)
+returns-3 c =
+    let c2 = c .before .before in
+    let c6 = c2 .before .before .before .before in
+    let c7 = c6 .before in
+    seek-stop (c7 .loop .inv) (c6 .if1 .left) (c2 .quick-field .ensures) (c .enum-told .given .1)
 
 returns-4 : tie.Need-returns-4 Inv-loop μ-loop
 unfolding soughtSays
-returns-4 c = seek-found (c .before .before .before .before .before .before .before .before .before .before .loop .inv) (c .before .before .before .before .before .before .before .before .before .if1 .left) (c .before .before .before .before .before .quick-field .ensures) (c .before .before .before .read .given .1) (c .if7 .taken)
+returns-4 c =
+    let c3 = c .before .before .before in
+    let c5 = c3 .before .before in
+    let c9 = c5 .before .before .before .before in
+    let c10 = c9 .before in
+    seek-found (c10 .loop .inv) (c9 .if1 .left) (c5 .quick-field .ensures) (c3 .read .given .1) (c .if7 .taken)
 
 loop-less-3 : tie.Need-loop-less-3 Inv-loop μ-loop
-loop-less-3 c = seek-falls (c .before .before .before .before .before .before .before .before .before .before .loop .inv) (c .before .before .before .before .before .before .before .before .before .if1 .left) (c .before .before .before .before .before .quick-field .ensures) (c .before .before .before .read .given .1)
+loop-less-3 c =
+    let c3 = c .before .before .before in
+    let c5 = c3 .before .before in
+    let c9 = c5 .before .before .before .before in
+    let c10 = c9 .before in
+    seek-falls (c10 .loop .inv) (c9 .if1 .left) (c5 .quick-field .ensures) (c3 .read .given .1)
 
 loop-again-3 : tie.Need-loop-again-3 Inv-loop μ-loop
-loop-again-3 c = seek-on (seek-next (c .before .before .before .before .before .before .before .before .before .before .loop .inv) (c .before .before .before .before .before .before .before .before .before .if1 .left) (c .before .before .before .before .before .quick-field .ensures) (c .before .before .before .read .given .1) (c .if7 .left))
+loop-again-3 c =
+    let c3 = c .before .before .before in
+    let c5 = c3 .before .before in
+    let c9 = c5 .before .before .before .before in
+    let c10 = c9 .before in
+    seek-on (seek-next (c10 .loop .inv) (c9 .if1 .left) (c5 .quick-field .ensures) (c3 .read .given .1) (c .if7 .left))
 
 pub next-of-spec : {M : Type 1} → statement M
 next-of-spec =

@@ -6,7 +6,11 @@ use Rattle.wire.proofs.Cursor.tag.Tie as tie
 
 returns : tie.Need-returns
 unfolding tagSays
-returns c = c .before .before .before .before .quick-tag .ensures (c .before .before .if1 .taken) .read (sym (c .before .is-wire .ensures) ∙ c .if2 .taken)
+returns c =
+    let c1 = c .before in
+    let c2 = c1 .before in
+    let c4 = c2 .before .before in
+    c4 .quick-tag .ensures (c2 .if1 .taken) .read (sym (c1 .is-wire .ensures) ∙ c .if2 .taken)
 
 pub tag-spec : {M : Type 1} → statement M
 tag-spec =

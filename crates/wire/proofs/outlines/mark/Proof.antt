@@ -1,5 +1,4 @@
 use Rattle.wire.proofs.OutlineLaws.{marked-set, marked-here, marked-not}
-use borrow.Author.Needs.{needs}
 use Rattle.wire.proofs.outlines.mark.Statement.{statement}
 use Rattle.wire.proofs.outlines.mark.Tie as tie
 

@@ -4,7 +4,10 @@ use Rattle.wire.proofs.quick.number_at.Statement.{statement}
 use Rattle.wire.proofs.quick.number_at.Tie as tie
 
 returns : tie.Need-returns
-returns c = λ v e. number-of-read (c .before .before .before .read-varint .ensures) v e (c .before .v .given .1)
+returns c =
+    let c1 = c .before in
+    let c3 = c1 .before .before in
+    λ v e. number-of-read (c3 .read-varint .ensures) v e (c1 .v .given .1)
 
 returns-2 : tie.Need-returns-2
 returns-2 c = λ v e. number-of-refused (c .before .before .read-varint .ensures) v e (c .enum-told .given .1)

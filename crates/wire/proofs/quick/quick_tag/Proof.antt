@@ -11,7 +11,10 @@ returns-2 : tie.Need-returns-2
 returns-2 c = λ h. absurd (omega (arith, c .unread2 .ensures))
 
 returns-3 : tie.Need-returns-3
-returns-3 c = λ h. record { read = quick-tag _ _ _ _ (c .before .before .before .before .before .before .few-bytes .ensures h) (c .before .before .if2 .left) }
+returns-3 c =
+    let c2 = c .before .before in
+    let c6 = c2 .before .before .before .before in
+    λ h. record { read = quick-tag _ _ _ _ (c6 .few-bytes .ensures h) (c2 .if2 .left) }
 
 pub quick-tag-spec : {M : Type 1} → statement M
 quick-tag-spec =

@@ -9,16 +9,24 @@ returns : tie.Need-returns
 returns c = λ h. absurd (omega (arith, ends-there (c .field-of .ensures) h))
 
 sub-if3 : tie.Need-sub-if3
-sub-if3 c = let q = c .before .before .before .before .few-bytes .ensures (omega arith) .inside in omega arith
+sub-if3 c =
+    let c4 = c .before .before .before .before in
+    let q = c4 .few-bytes .ensures (omega arith) .inside in omega arith
 
 returns-2 : tie.Need-returns-2
 returns-2 c = λ h. absurd (omega (arith, ends-there (c .field-of2 .ensures) h))
 
 returns-3 : tie.Need-returns-3
-returns-3 c = λ h. let q = c .before .before .before .before .before .before .before .before .few-bytes .ensures (omega arith) in quick-length _ _ _ _ q (c .before .before .before .before .before .before .before .if1 .taken) refl (omega (arith, q .inside)) (c .field-of3 .ensures)
+returns-3 c =
+    let c7 = c .before .before .before .before .before .before .before in
+    let c8 = c7 .before in
+    λ h. let q = c8 .few-bytes .ensures (omega arith) in quick-length _ _ _ _ q (c7 .if1 .taken) refl (omega (arith, q .inside)) (c .field-of3 .ensures)
 
 returns-4 : tie.Need-returns-4
-returns-4 c = λ h. let q = c .before .before .before .few-bytes .ensures (ends-there (c .field-of4 .ensures) h) in quick-number _ _ _ _ (q .read _) (c .before .if4 .taken) (q .inside) (c .field-of4 .ensures)
+returns-4 c =
+    let c1 = c .before in
+    let c3 = c1 .before .before in
+    λ h. let q = c3 .few-bytes .ensures (ends-there (c .field-of4 .ensures) h) in quick-number _ _ _ _ (q .read _) (c1 .if4 .taken) (q .inside) (c .field-of4 .ensures)
 
 returns-5 : tie.Need-returns-5
 returns-5 c = λ h. absurd (omega (arith, ends-there (c .field-of5 .ensures) h))
@@ -30,7 +38,9 @@ returns-7 : tie.Need-returns-7
 returns-7 c = λ h. absurd (omega (arith, ends-there (c .field-of7 .ensures) h))
 
 returns-8 : tie.Need-returns-8
-returns-8 c = λ h. quick-fixed _ _ _ (c .before .before .before .before .fixed-size .ensures (omega arith)) refl (omega arith) (c .field-of8 .ensures)
+returns-8 c =
+    let c4 = c .before .before .before .before in
+    λ h. quick-fixed _ _ _ (c4 .fixed-size .ensures (omega arith)) refl (omega arith) (c .field-of8 .ensures)
 
 pub quick-value-spec : {M : Type 1} → statement M
 quick-value-spec =

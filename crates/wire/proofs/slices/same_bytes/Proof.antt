@@ -24,13 +24,21 @@ loop-holds : tie.Need-loop-holds Inv-loop μ-loop
 loop-holds c = c .before .same-eights .ensures .0 (not-false _ (c .if2 .left))
 
 shared-slice-read-if3-2 : tie.Need-shared-slice-read-if3-2 Inv-loop μ-loop
-shared-slice-read-if3-2 c = omega (arith, c .before .before .before .loop .inv .long)
+shared-slice-read-if3-2 c =
+    let c3 = c .before .before .before in
+    omega (arith, c3 .loop .inv .long)
 
 returns-3 : tie.Need-returns-3 Inv-loop μ-loop
-returns-3 c = compare-differ (c .before .before .before .before .loop .inv) (c .before .before .before .loop-test .taken) (c .if3 .taken)
+returns-3 c =
+    let c3 = c .before .before .before in
+    let c4 = c3 .before in
+    compare-differ (c4 .loop .inv) (c3 .loop-test .taken) (c .if3 .taken)
 
 loop-again : tie.Need-loop-again Inv-loop μ-loop
-loop-again c = compare-next (c .before .before .before .before .loop .inv) (c .before .before .before .loop-test .taken) (c .if3 .left)
+loop-again c =
+    let c3 = c .before .before .before in
+    let c4 = c3 .before in
+    compare-next (c4 .loop .inv) (c3 .loop-test .taken) (c .if3 .left)
 
 returns-4 : tie.Need-returns-4 Inv-loop μ-loop
 returns-4 c = compare-end (c .before .loop .inv) (c .loop-test .left)

@@ -19,16 +19,28 @@ eight-requires : tie.Need-eight-requires Inv-loop μ-loop
 eight-requires c κs = stride-room (c .before .loop .inv) (c .loop-test .taken)
 
 eight-requires-2 : tie.Need-eight-requires-2 Inv-loop μ-loop
-eight-requires-2 c κs = omega (arith, stride-room (c .before .before .loop .inv) (c .before .loop-test .taken), c .before .before .before .before .before .pre)
+eight-requires-2 c κs =
+    let c1 = c .before in
+    let c2 = c1 .before in
+    let c5 = c2 .before .before .before in
+    omega (arith, stride-room (c2 .loop .inv) (c1 .loop-test .taken), c5 .pre)
 
 returns : tie.Need-returns Inv-loop μ-loop
 returns c = stride-differs (c .before .before .eight .ensures) (c .before .eight2 .ensures) (c .if1 .taken)
 
 add-i : tie.Need-add-i Inv-loop μ-loop
-add-i c = omega (arith, stride-room (c .before .before .before .before .loop .inv) (c .before .before .before .loop-test .taken))
+add-i c =
+    let c3 = c .before .before .before in
+    let c4 = c3 .before in
+    omega (arith, stride-room (c4 .loop .inv) (c3 .loop-test .taken))
 
 loop-again : tie.Need-loop-again Inv-loop μ-loop
-loop-again c = stride-on (c .before .before .before .before .loop .inv) (c .before .before .before .loop-test .taken) (c .before .before .eight .ensures) (c .before .eight2 .ensures) (c .if1 .left)
+loop-again c =
+    let c1 = c .before in
+    let c2 = c1 .before in
+    let c3 = c2 .before in
+    let c4 = c3 .before in
+    stride-on (c4 .loop .inv) (c3 .loop-test .taken) (c2 .eight .ensures) (c1 .eight2 .ensures) (c .if1 .left)
 
 returns-2 : tie.Need-returns-2 Inv-loop μ-loop
 returns-2 c = stride-end (c .before .loop .inv) (c .loop-test .left)

@@ -20,14 +20,24 @@ returns-4 c = λ h. absurd (omega (arith, c .unread3 .ensures))
 
 returns-5 : tie.Need-returns-5
 unfolding byte
-returns-5 c = λ h. few-two _ _ _ _ (c .before .before .before .before .before .wide .ensures .0) (c .before .before .before .before .if3 .left) (c .before .before .before .before .before .wide .ensures .1) _ (c .before .wide2 .ensures .0) (omega arith) (omega arith) (omega arith) (c .if5 .taken)
+returns-5 c =
+    let c1 = c .before in
+    let c4 = c1 .before .before .before in
+    let c5 = c4 .before in
+    λ h. few-two _ _ _ _ (c5 .wide .ensures .0) (c4 .if3 .left) (c5 .wide .ensures .1) _ (c1 .wide2 .ensures .0) (omega arith) (omega arith) (omega arith) (c .if5 .taken)
 
 returns-6 : tie.Need-returns-6
 returns-6 c = λ h. absurd (omega (arith, c .unread4 .ensures))
 
 returns-7 : tie.Need-returns-7
 unfolding byte
-returns-7 c = λ h. few-three _ _ _ _ (c .before .before .before .before .before .before .before .before .before .wide .ensures .0) (c .before .before .before .before .before .before .before .before .if3 .left) (c .before .before .before .before .before .before .before .before .before .wide .ensures .1) _ (c .before .before .before .before .before .wide2 .ensures .0) (c .before .before .before .before .if5 .left) (c .before .before .before .before .before .wide2 .ensures .1) _ (c .before .wide3 .ensures .0) (omega arith) (omega arith) (omega arith) (c .if7 .taken)
+returns-7 c =
+    let c1 = c .before in
+    let c4 = c1 .before .before .before in
+    let c5 = c4 .before in
+    let c8 = c5 .before .before .before in
+    let c9 = c8 .before in
+    λ h. few-three _ _ _ _ (c9 .wide .ensures .0) (c8 .if3 .left) (c9 .wide .ensures .1) _ (c5 .wide2 .ensures .0) (c4 .if5 .left) (c5 .wide2 .ensures .1) _ (c1 .wide3 .ensures .0) (omega arith) (omega arith) (omega arith) (c .if7 .taken)
 
 returns-8 : tie.Need-returns-8
 returns-8 c = λ h. absurd (omega (arith, c .unread5 .ensures))

@@ -26,18 +26,30 @@ loop-holds c = skip-start _ _ _ (omega arith)
 
 returns-4 : tie.Need-returns-4 Inv-loop μ-loop
 unfolding byte
-returns-4 c = λ h. skip-last (c .before .before .before .before .loop .inv) (c .before .wide .ensures .0) (c .before .before .before .loop-test .taken) (c .if4 .taken) (omega arith)
+returns-4 c =
+    let c1 = c .before in
+    let c3 = c1 .before .before in
+    let c4 = c3 .before in
+    λ h. skip-last (c4 .loop .inv) (c1 .wide .ensures .0) (c3 .loop-test .taken) (c .if4 .taken) (omega arith)
 
 loop-again : tie.Need-loop-again Inv-loop μ-loop
 unfolding byte
-loop-again c = skip-more (c .before .before .before .before .loop .inv) (c .before .wide .ensures .0) (c .before .before .before .loop-test .taken) (c .if4 .left) (c .before .wide .ensures .1)
+loop-again c =
+    let c1 = c .before in
+    let c3 = c1 .before .before in
+    let c4 = c3 .before in
+    skip-more (c4 .loop .inv) (c1 .wide .ensures .0) (c3 .loop-test .taken) (c .if4 .left) (c1 .wide .ensures .1)
 
 returns-5 : tie.Need-returns-5 Inv-loop μ-loop
 returns-5 c = λ h. absurd (omega arith)
 
 returns-6 : tie.Need-returns-6 Inv-loop μ-loop
 unfolding byte
-returns-6 c = λ h. skip-tenth (c .before .before .before .before .loop .inv) (c .before .before .before .loop-test .left) (c .before .wide2 .ensures .0) (c .if5 .left) (omega arith)
+returns-6 c =
+    let c1 = c .before in
+    let c3 = c1 .before .before in
+    let c4 = c3 .before in
+    λ h. skip-tenth (c4 .loop .inv) (c3 .loop-test .left) (c1 .wide2 .ensures .0) (c .if5 .left) (omega arith)
 
 pub many-end-spec : {M : Type 1} → statement M
 many-end-spec =
