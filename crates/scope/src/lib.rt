@@ -19,6 +19,7 @@ pub use remembered::list;
 pub use scopes::Progress;
 pub use scopes::Step;
 pub use scopes::clear;
+pub use scopes::clear_both;
 pub use scopes::leaving;
 pub use scopes::standing;
 pub use scopes::stopped;

@@ -61,6 +61,15 @@ pub fn clear(cells: &mut [u32])
     }
 }
 
+// The cells and the extra ones, at the end.
+pub fn clear_both(cells: &mut [u32], extra: &mut [u32])
+    ensures cells { λ _. ⌜ now (cells .exit) ≡ replicate (length (now (cells .entry))) 0 ⌝ }
+    ensures extra { λ _. ⌜ now (extra .exit) ≡ replicate (length (now (extra .entry))) 0 ⌝ }
+{
+    clear(cells);
+    clear(extra);
+}
+
 pub(crate) fn larger(a: usize, b: usize) -> usize
     ensures { λ r. ⌜ r ≡ max a b ⌝ }
 {
