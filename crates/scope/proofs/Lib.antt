@@ -1,12 +1,3 @@
 pub mod ScopeLaws
 pub mod SplitLaws
 pub mod RecallLaws
-pub mod BehindLaws
-pub mod ListsLaws
-pub mod StepLaws
-pub mod InputLaws
-pub mod OutputLaws
-pub mod InitializerLaws
-pub mod OpeningLaws
-pub mod NodeLaws
-pub mod ClosingLaws

@@ -1,3 +1,2 @@
 pub mod Scope
 pub mod Recall
-pub mod Again

@@ -50,7 +50,7 @@ fn sees_in(model: &[u8], cells: &[u32], names: &[u32], seed: u64, used: usize, n
 }
 
 // Is the name among those that the first `used` cells hold?
-pub(crate) fn sees(
+pub fn sees(
     model: &[u8],
     cells: &[u32],
     extra: &[u32],
@@ -94,7 +94,7 @@ pub fn list(
 }
 
 // A new name, that in the field `name`: 23, 40, "and is visible from then on".
-pub(crate) fn define(
+pub fn define(
     model: &[u8],
     cells: &mut [u32],
     extra: &mut [u32],

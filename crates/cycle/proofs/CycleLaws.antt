@@ -1,0 +1,93 @@
+-- A loop of the cycle over nodes, attributes or bodies: what `Adding` says, and no more nodes counted than bytes passed.
+use Prim.Native.Nat.{ℕ, _+_, _-_, _^_, _≤_, _<_}
+use native.Mathlib.Omega.{arith}
+use mathlib.Core.Path.{_≡_}
+use mathlib.Core.List.{List}
+use lib.ListN.{length}
+use Rattle.wire.specs.Outcome.{Judged, each}
+use Rattle.wire.specs.Bytes.{Bytes}
+use Rattle.wire.specs.Wire.{field}
+use Rattle.wire.specs.Answers.{soughtSays, soughtIn}
+use Rattle.wire.specs.declared.Refusal.{Refusal}
+use Rattle.wire.specs.declared.Field.{Field}
+use Rattle.wire.specs.declared.Cursor.{Cursor}
+use Rattle.wire.specs.declared.Sought.{Sought}
+use Rattle.wire.specs.declared.Sought.the-variants as sought
+use Rattle.wire.proofs.Passing.{passed-tells}
+use Rattle.wire.proofs.Reading.{Fits, AtTag, field-tells}
+use Rattle.wire.proofs.Along.{allFrom, along-start, along-from, along-past, along-read}
+use Rattle.rules.specs.Walk.{Walk}
+use Rattle.scope.specs.Scope.{walkIn, stepSays, grows, Enters, counted, Keeps}
+use Rattle.scope.specs.declared.scopes.Progress.{Progress}
+use Rattle.scope.specs.declared.scopes.Step.{Step}
+use Rattle.scope.specs.declared.scopes.Step.the-variants as step
+use Rattle.parts.proofs.StepLaws.{Adder, Adding, adding-start, adding-done, adding-falls, adding-stops, adding-goes}
+
+pub record Going (model : Bytes) (number end start : ℕ) (rule : Adder) (o : Judged Walk) (first : List ℕ) (p : Progress) (cells : List ℕ) (q : Progress) (c : Cursor) : Type 0 where
+  pub adding : Adding model number end rule o first p cells q c
+  pub from : start ≤ c .at
+  pub inside : c .at ≤ end
+  pub few : q .nodes + start ≤ p .nodes + c .at
+
+pub enters-low : {model : Bytes} {p : Progress} {f : Field} → Enters model p f → p .nodes ≤ f .start
+enters-low n = let a = n .few in let b = n .tagged in omega arith
+
+pub going-start : (model : Bytes) (number : ℕ) (rule : Adder) (first : List ℕ) (p : Progress) (c : Cursor) → c .at ≤ c .end →
+    Going model number (c .end) (c .at) rule (each (rule (length first)) (walkIn model first p) (allFrom model number (c .end) (c .at))) first p first p c
+going-start model number rule first p c h = record {
+  adding = adding-start model number rule first p c (along-start model number (rule (length first)) (walkIn model first p) c);
+  from = omega arith;
+  inside = h;
+  few = omega arith;
+}
+
+module _ {model : Bytes} {number end start : ℕ} {rule : Adder} {o : Judged Walk} {first : List ℕ} {p : Progress} {cells : List ℕ} {q : Progress} {c : Cursor}
+    (g : Going model number end start rule o first p cells q c) where
+  pub going-few : q .nodes + start ≤ p .nodes + end
+  going-few = let h = g .few in let k = g .inside in omega arith
+
+  module _ {a : Sought} (read : soughtSays a ≡ soughtIn model number (c .end) (c .at)) where
+    pub going-done : a ≡ sought.Missing → (stepSays model cells (step.Went q) ≡ o) × (grows p (step.Went q) × Keeps (p .used) first cells)
+    going-done e = adding-done (g .adding) read e
+
+    module _ {f : Field} {next : Cursor} (e : a ≡ sought.Found f next) where
+      pub going-falls : end - next .at < end - c .at
+      going-falls = adding-falls (g .adding) read e
+
+      fits : Fits (f .place) end f
+      fits = passed-tells (Fits (f .place) end) (AtTag (f .place)) (field model end (f .place)) f (field-tells model end (f .place)) (along-read (g .adding .along) read e)
+
+      -- the walk may go into the field
+      pub going-enters : length model < 2 ^ 32 → end ≤ length model → p .nodes ≤ start → Enters model q f
+      going-enters h k l =
+          let low = along-from (g .adding .along) read e in
+          let few = g .few in
+          record { short = h; inside = (let m = fits .3 in omega arith); tagged = fits .1; ends = fits .2; few = omega arith }
+
+      -- which is shorter than what it lies in
+      pub going-shorter : {t : ℕ} → end - start ≡ t → f .next - f .start < t
+      going-shorter h =
+          let low = along-from (g .adding .along) read e in
+          let from = g .from in
+          let a = fits .1 in let b = fits .2 in let d = fits .3 in omega arith
+
+      -- r is the answer for the field, with the cells `later`
+      module _ {later : List ℕ} (r : Step) (answer : stepSays model later r ≡ rule (length cells) (walkIn model cells q) f) (more : grows q r) (kept : Keeps (q .used) cells later) where
+        pub going-stops : {x : Refusal} → r ≡ step.Refused x → (stepSays model later r ≡ o) × Keeps (p .used) first later
+        going-stops k = let s = adding-stops (g .adding) read e r answer more kept k in (s .0, s .1 .1)
+
+        pub going-goes : counted f q r → {u : Progress} → r ≡ step.Went u → Going model number end start rule o first p later u next
+        unfolding counted
+        going-goes n {u} k =
+            let low = along-from (g .adding .along) read e in
+            let past = along-past (g .adding .along) read e in
+            let from = g .from in
+            let few = g .few in
+            let m : u .nodes + f .place ≤ q .nodes + f .next = rw k at n in
+            let a = fits .1 in let b = fits .2 in let d = fits .3 in
+            record {
+              adding = adding-goes (g .adding) read e r answer more kept k;
+              from = omega arith;
+              inside = omega arith;
+              few = omega arith;
+            }

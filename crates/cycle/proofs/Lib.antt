@@ -1,0 +1,4 @@
+pub mod BodyLaws
+pub mod CycleLaws
+pub mod PromiseLaws
+pub mod GraphLaws

@@ -1,0 +1,177 @@
+// "A graph judges nodes, a node judges attributes, and an attribute judges graphs, to depth 8, the main graph being depth 1." A graph
+// inside another is shorter than it, so the three come to an end; `left` depths are left.
+ghost use mathlib.Core.Path.{_≡_};
+ghost use mathlib.Core.Bool.{true, false};
+ghost use lib.ListN.{length, drop};
+ghost use Rattle.rules.specs.Verdict.{fills};
+ghost use Rattle.schema.specs.Numbers.{Graph·node, Node·name, Node·attribute, Attribute·name};
+ghost use Rattle.index.specs.Listing.{Listed};
+ghost use Rattle.messages.specs.Earlier.{earlierIn};
+ghost use Rattle.scope.specs.Scope.{walkIn, stepSays, grows, counted, Enters, Keeps};
+ghost use Rattle.scope.specs.Recall.{Minds, Minded};
+ghost use Rattle.parts.specs.Again.{attributeAgain, nodeAgain, graphAgain};
+use index::Listing;
+use messages::Ruling;
+use messages::carrier_of;
+use messages::is_body;
+use messages::numbers::ATTRIBUTE_NAME;
+use messages::numbers::ATTRIBUTE_TYPE;
+use messages::numbers::GRAPH_NODE;
+use messages::numbers::NODE_ATTRIBUTE;
+use messages::numbers::NODE_NAME;
+use scope::Index;
+use scope::Progress;
+use scope::Step;
+use parts::attribute_head;
+use parts::closing;
+use parts::graph_outputs;
+use scope::leaving;
+use scope::list;
+use parts::node_rules;
+use parts::opening;
+use scope::standing;
+use scope::stopped;
+use wire::Field;
+use wire::Sought;
+
+// "its name (20, 21); 16; inputs; initializers; nodes; outputs, each in list order whatever the field order on the wire"
+pub fn graph(
+    model: &[u8],
+    cells: &mut [u32],
+    extra: &mut [u32],
+    ix: Index,
+    top: usize,
+    left: usize,
+    main: bool,
+    p: Progress,
+    f: Field,
+) -> Step
+    requires { ⌜ Enters (now model) p f ⌝ }
+    requires { ⌜ Minds (now model) ix top (now cells) (now extra) ⌝ }
+    requires { ⌜ (main ≡ true → p .used ≡ 0) ⌝ }
+    ensures answer { λ r. ⌜ stepSays (now (model .entry)) (now (cells .exit)) r ≡ graphAgain (now (model .entry)) (fills (length (now (cells .entry)))) left main (walkIn (now (model .entry)) (now (cells .entry)) p) f ⌝ }
+    ensures grown { λ r. ⌜ grows p r ⌝ }
+    ensures counts { λ r. ⌜ counted f p r ⌝ }
+    ensures kept { λ _. ⌜ Keeps (p .used) (now (cells .entry)) (now (cells .exit)) ⌝ }
+    ensures memory { λ _. ⌜ Minded (now (model .entry)) ix top (now (cells .exit)) (now (extra .entry)) (now (extra .exit)) ⌝ }
+{
+    if left == 0 {
+        return stopped(Ruling::TOO_DEEP, f.place);
+    }
+    let opened = opening(model, cells, extra, ix, top, main, p, f);
+    let Step::Went(first) = opened else {
+        return opened;
+    };
+    let mut c = f.contents();
+    let mut q = first;
+    let mut l = Listing {
+        base: top,
+        top: top,
+        whole: true,
+    };
+    loop {
+        let sought = c.next_of(model, GRAPH_NODE);
+        let Sought::Found(n, next) = sought else {
+            return standing(q, graph_outputs(model, cells, extra, ix, q.used, main, f));
+        };
+        let step = node(model, cells, extra, ix, l, left - 1, f, q, n);
+        let Step::Went(further) = step else {
+            return step;
+        };
+        l = list(model, extra, ix, l, n, NODE_NAME);
+        q = further;
+        c = next;
+    }
+}
+
+// "Node: op_type (27, 21); 28; a nonempty node name (21, 29); inputs; attributes; 34; outputs."
+fn node(
+    model: &[u8],
+    cells: &mut [u32],
+    extra: &mut [u32],
+    ix: Index,
+    l: Listing,
+    left: usize,
+    graph: Field,
+    p: Progress,
+    f: Field,
+) -> Step
+    requires { ⌜ Enters (now model) p f ⌝ }
+    requires { ⌜ Minds (now model) ix (l .top) (now cells) (now extra) ⌝ }
+    requires { ⌜ Listed (now model) (ix .seed) (drop (ix .split) (now extra)) l (earlierIn (now model) Graph·node Node·name graph f) ⌝ }
+    ensures answer { λ r. ⌜ stepSays (now (model .entry)) (now (cells .exit)) r ≡ nodeAgain (now (model .entry)) (fills (length (now (cells .entry)))) (λ v g. graphAgain (now (model .entry)) (fills (length (now (cells .entry)))) left false v g) graph (walkIn (now (model .entry)) (now (cells .entry)) p) f ⌝ }
+    ensures grown { λ r. ⌜ grows p r ⌝ }
+    ensures counts { λ r. ⌜ counted f p r ⌝ }
+    ensures kept { λ _. ⌜ Keeps (p .used) (now (cells .entry)) (now (cells .exit)) ⌝ }
+    ensures memory { λ _. ⌜ Minded (now (model .entry)) ix (l .top) (now (cells .exit)) (now (extra .entry)) (now (extra .exit)) ⌝ }
+{
+    let ruling = node_rules(model, cells, extra, ix, l, p.used, graph, f);
+    let Ruling::Kept = ruling else {
+        return standing(p, ruling);
+    };
+    let mut c = f.contents();
+    let mut q = p;
+    let mut own = Listing {
+        base: l.top,
+        top: l.top,
+        whole: true,
+    };
+    loop {
+        let sought = c.next_of(model, NODE_ATTRIBUTE);
+        let Sought::Found(a, next) = sought else {
+            return closing(model, cells, extra, ix, q, f);
+        };
+        let step = attribute(model, cells, extra, ix, own, left, f, q, a);
+        let Step::Went(further) = step else {
+            return step;
+        };
+        own = list(model, extra, ix, own, a, ATTRIBUTE_NAME);
+        q = further;
+        c = next;
+    }
+}
+
+// "Attribute: 22, 21, 31, 33, 32; then its graphs in order"
+fn attribute(
+    model: &[u8],
+    cells: &mut [u32],
+    extra: &mut [u32],
+    ix: Index,
+    l: Listing,
+    left: usize,
+    n: Field,
+    p: Progress,
+    f: Field,
+) -> Step
+    requires { ⌜ Enters (now model) p f ⌝ }
+    requires { ⌜ Minds (now model) ix (l .top) (now cells) (now extra) ⌝ }
+    requires { ⌜ Listed (now model) (ix .seed) (drop (ix .split) (now extra)) l (earlierIn (now model) Node·attribute Attribute·name n f) ⌝ }
+    ensures answer { λ r. ⌜ stepSays (now (model .entry)) (now (cells .exit)) r ≡ attributeAgain (now (model .entry)) (fills (length (now (cells .entry)))) (λ v g. graphAgain (now (model .entry)) (fills (length (now (cells .entry)))) left false v g) n (walkIn (now (model .entry)) (now (cells .entry)) p) f ⌝ }
+    ensures grown { λ r. ⌜ grows p r ⌝ }
+    ensures counts { λ r. ⌜ counted f p r ⌝ }
+    ensures kept { λ _. ⌜ Keeps (p .used) (now (cells .entry)) (now (cells .exit)) ⌝ }
+    ensures memory { λ _. ⌜ Minded (now (model .entry)) ix (l .top) (now (cells .exit)) (now (extra .entry)) (now (extra .exit)) ⌝ }
+{
+    let ruling = attribute_head(model, extra, ix, l, n, f);
+    let Ruling::Kept = ruling else {
+        return standing(p, ruling);
+    };
+    let number = carrier_of(f.number_of(model, ATTRIBUTE_TYPE));
+    if !is_body(number) {
+        return Step::Went(p);
+    }
+    let mut c = f.contents();
+    let mut q = p;
+    loop {
+        let sought = c.next_of(model, number);
+        let Sought::Found(g, next) = sought else {
+            return Step::Went(q);
+        };
+        let step = graph(model, cells, extra, ix, l.top, left, false, q, g);
+        let Step::Went(inside) = step else {
+            return step;
+        };
+        q = leaving(q, inside);
+        c = next;
+    }
+}

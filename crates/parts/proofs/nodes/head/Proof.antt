@@ -1,0 +1,20 @@
+use Rattle.scope.proofs.SplitLaws.{others-lent}
+use borrow.Author.Needs.{needs}
+use Rattle.parts.proofs.nodes.head.Statement.{statement}
+use Rattle.parts.proofs.nodes.head.Tie as tie
+
+node-head-requires : tie.Need-node-head-requires
+node-head-requires c κs =
+    let c4 = c .before .before .before .before in
+    rw (others-lent _ _) (c4 .pre .1)
+
+pub head-spec : {M : Type 1} → statement M
+head-spec =
+    tie.close
+    (tie.spec
+    (λ c. search needs)
+    (λ c. search needs)
+    (λ c. search needs)
+    (λ c. search needs)
+    node-head-requires
+    (λ c. search needs))

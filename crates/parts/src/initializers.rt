@@ -1,0 +1,219 @@
+// The initializers of a graph: in the main graph defaults of its inputs, else new names.
+ghost use mathlib.Core.Path.{_≡_};
+ghost use mathlib.Core.Bool.{false};
+ghost use Prim.Native.Nat.{_^_, _<_, _≤_};
+ghost use lib.ListN.{length, drop};
+ghost use Rattle.wire.specs.Lists.{isEmpty};
+ghost use Rattle.wire.specs.Bytes.{member};
+ghost use Rattle.wire.specs.Outcome.{each};
+ghost use Rattle.wire.specs.Message.{allOf, text, message};
+ghost use Rattle.schema.specs.Numbers.{Graph·initializer, Tensor·name};
+ghost use Rattle.rules.specs.Names.{nameIn, inputsOf};
+ghost use Rattle.rules.specs.Verdict.{fills};
+ghost use Rattle.rules.specs.Graph.{isDefault, defaultOrNew};
+ghost use Rattle.index.specs.Memory.{known};
+ghost use Rattle.index.specs.Listing.{Listed};
+ghost use Rattle.messages.specs.Earlier.{earlierIn};
+ghost use Rattle.scope.specs.Scope.{nameAt, walkIn, stepSays, grows, Keeps, Defaultable};
+ghost use Rattle.scope.specs.Recall.{Recalling, Recalled, Minded};
+ghost use Rattle.parts.specs.Again.{context, initializerAgain};
+use scope::Index;
+use scope::define;
+use scope::list;
+use scope::sees;
+use scope::Progress;
+use scope::Step;
+use scope::stopped;
+use index::Listing;
+use messages::Naming;
+use messages::Ruling;
+use messages::is_element;
+use messages::is_listed;
+use messages::numbers::GRAPH_INITIALIZER;
+use messages::numbers::TENSOR_DATA_TYPE;
+use messages::numbers::TENSOR_NAME;
+use messages::read_name;
+use wire::Field;
+use wire::Sought;
+
+// Has an earlier initializer of the graph this name?
+fn is_repeated(
+    model: &[u8],
+    extra: &[u32],
+    ix: Index,
+    l: Listing,
+    graph: Field,
+    f: Field,
+    name: &[u8],
+) -> bool
+    requires { ⌜ ix .split ≤ length (now extra) ⌝ }
+    requires { ⌜ Listed (now model) (ix .seed) (drop (ix .split) (now extra)) l (earlierIn (now model) Graph·initializer Tensor·name graph f) ⌝ }
+    requires { ⌜ isEmpty (now name) ≡ false ⌝ }
+    ensures { λ r. ⌜ r ≡ member (now (name .entry)) (earlierIn (now (model .entry)) Graph·initializer Tensor·name graph f) ⌝ }
+{
+    let split = ix.split;
+    is_listed(
+        model,
+        &extra[split..],
+        ix.seed,
+        l,
+        graph,
+        GRAPH_INITIALIZER,
+        TENSOR_NAME,
+        f.place,
+        name,
+    )
+}
+
+// "In the main graph it may bear the name of an input, once: that is a default, and adds no name." The names of the inputs are the oldest
+// `inputs` of the scope.
+fn is_default(
+    model: &[u8],
+    cells: &[u32],
+    extra: &[u32],
+    ix: Index,
+    l: Listing,
+    main: bool,
+    inputs: usize,
+    graph: Field,
+    f: Field,
+    name: &[u8],
+) -> bool
+    requires { ⌜ Recalling (now model) ix (now cells) (now extra) ⌝ }
+    requires { ⌜ Defaultable (now model) main graph (now cells) inputs ⌝ }
+    requires { ⌜ Listed (now model) (ix .seed) (drop (ix .split) (now extra)) l (earlierIn (now model) Graph·initializer Tensor·name graph f) ⌝ }
+    requires { ⌜ isEmpty (now name) ≡ false ⌝ }
+    ensures { λ r. ⌜ r ≡ isDefault (context (now (model .entry)) main) (inputsOf (now (model .entry)) (message (now (model .entry)) graph)) (earlierIn (now (model .entry)) Graph·initializer Tensor·name graph f) (now (name .entry)) ⌝ }
+{
+    if !main {
+        return false;
+    }
+    if !sees(model, cells, extra, ix, inputs, name) {
+        return false;
+    }
+    !is_repeated(model, extra, ix, l, graph, f, name)
+}
+
+fn default_or_new(
+    model: &[u8],
+    cells: &mut [u32],
+    extra: &mut [u32],
+    ix: Index,
+    l: Listing,
+    main: bool,
+    inputs: usize,
+    p: Progress,
+    graph: Field,
+    f: Field,
+    name: Field,
+) -> Step
+    requires { ⌜ name .place < 2 ^ 32 ⌝ }
+    requires { ⌜ nameAt (now model) (name .place) ≡ nameIn (now model) name ⌝ }
+    requires { ⌜ length (now model) < 2 ^ 32 ⌝ }
+    requires { ⌜ Recalling (now model) ix (now cells) (now extra) ⌝ }
+    requires { ⌜ Defaultable (now model) main graph (now cells) inputs ⌝ }
+    requires { ⌜ Listed (now model) (ix .seed) (drop (ix .split) (now extra)) l (earlierIn (now model) Graph·initializer Tensor·name graph f) ⌝ }
+    requires { ⌜ isEmpty (text (now model) name) ≡ false ⌝ }
+    ensures answer { λ r. ⌜ stepSays (now (model .entry)) (now (cells .exit)) r ≡ defaultOrNew (fills (length (now (cells .entry)))) (context (now (model .entry)) main) (inputsOf (now (model .entry)) (message (now (model .entry)) graph)) (record { walk = walkIn (now (model .entry)) (now (cells .entry)) p; earlier = earlierIn (now (model .entry)) Graph·initializer Tensor·name graph f }) (nameIn (now (model .entry)) name) ⌝ }
+    ensures grown { λ r. ⌜ grows p r ⌝ }
+    ensures kept { λ _. ⌜ Keeps (p .used) (now (cells .entry)) (now (cells .exit)) ⌝ }
+    ensures memory { λ _. ⌜ Recalled (now (model .entry)) ix (now (cells .exit)) (now (extra .entry)) (now (extra .exit)) ⌝ }
+{
+    if is_default(
+        model,
+        cells,
+        extra,
+        ix,
+        l,
+        main,
+        inputs,
+        graph,
+        f,
+        name.text(model),
+    ) {
+        return Step::Went(p);
+    }
+    define(model, cells, extra, ix, p, name)
+}
+
+// "Initializer: 22, 21, 23, 40, 26."
+fn initializer(
+    model: &[u8],
+    cells: &mut [u32],
+    extra: &mut [u32],
+    ix: Index,
+    l: Listing,
+    main: bool,
+    inputs: usize,
+    p: Progress,
+    graph: Field,
+    f: Field,
+) -> Step
+    requires { ⌜ length (now model) < 2 ^ 32 ⌝ }
+    requires { ⌜ f .next ≤ length (now model) ⌝ }
+    requires { ⌜ Recalling (now model) ix (now cells) (now extra) ⌝ }
+    requires { ⌜ Defaultable (now model) main graph (now cells) inputs ⌝ }
+    requires { ⌜ Listed (now model) (ix .seed) (drop (ix .split) (now extra)) l (earlierIn (now model) Graph·initializer Tensor·name graph f) ⌝ }
+    ensures answer { λ r. ⌜ stepSays (now (model .entry)) (now (cells .exit)) r ≡ initializerAgain (now (model .entry)) (fills (length (now (cells .entry)))) main graph (walkIn (now (model .entry)) (now (cells .entry)) p) f ⌝ }
+    ensures grown { λ r. ⌜ grows p r ⌝ }
+    ensures kept { λ _. ⌜ Keeps (p .used) (now (cells .entry)) (now (cells .exit)) ⌝ }
+    ensures memory { λ _. ⌜ Recalled (now (model .entry)) ix (now (cells .exit)) (now (extra .entry)) (now (extra .exit)) ⌝ }
+{
+    match read_name(model, f, TENSOR_NAME, Ruling::NAME_EMPTY) {
+        Naming::Refused(r) => Step::Refused(r),
+        Naming::Named(name) => {
+            let step = default_or_new(model, cells, extra, ix, l, main, inputs, p, graph, f, name);
+            let Step::Went(q) = step else {
+                return step;
+            };
+            if is_element(f.number_of(model, TENSOR_DATA_TYPE)) {
+                return Step::Went(q);
+            }
+            stopped(Ruling::BAD_DATA_TYPE, f.place_of(model, TENSOR_DATA_TYPE))
+        }
+    }
+}
+
+// Only the main graph has defaults: in another the names are not listed.
+pub(crate) fn initializers(
+    model: &[u8],
+    cells: &mut [u32],
+    extra: &mut [u32],
+    ix: Index,
+    top: usize,
+    main: bool,
+    p: Progress,
+    graph: Field,
+) -> Step
+    requires { ⌜ length (now model) < 2 ^ 32 ⌝ }
+    requires { ⌜ graph .next ≤ length (now model) ⌝ }
+    requires { ⌜ Recalling (now model) ix (now cells) (now extra) ⌝ }
+    requires { ⌜ Defaultable (now model) main graph (now cells) (p .used) ⌝ }
+    requires { ⌜ top ≤ known (drop (ix .split) (now extra)) ⌝ }
+    ensures answer { λ r. ⌜ stepSays (now (model .entry)) (now (cells .exit)) r ≡ each (initializerAgain (now (model .entry)) (fills (length (now (cells .entry)))) main graph) (walkIn (now (model .entry)) (now (cells .entry)) p) (allOf Graph·initializer (message (now (model .entry)) graph)) ⌝ }
+    ensures grown { λ r. ⌜ grows p r ⌝ }
+    ensures kept { λ _. ⌜ Keeps (p .used) (now (cells .entry)) (now (cells .exit)) ⌝ }
+    ensures memory { λ _. ⌜ Minded (now (model .entry)) ix top (now (cells .exit)) (now (extra .entry)) (now (extra .exit)) ⌝ }
+{
+    let inputs = p.used;
+    let mut c = graph.contents();
+    let mut q = p;
+    let mut l = Listing {
+        base: top,
+        top: top,
+        whole: main,
+    };
+    loop {
+        let sought = c.next_of(model, GRAPH_INITIALIZER);
+        let Sought::Found(f, next) = sought else {
+            return Step::Went(q);
+        };
+        let step = initializer(model, cells, extra, ix, l, main, inputs, q, graph, f);
+        let Step::Went(further) = step else {
+            return step;
+        };
+        l = list(model, extra, ix, l, f, TENSOR_NAME);
+        q = further;
+        c = next;
+    }
+}

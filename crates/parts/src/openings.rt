@@ -1,0 +1,75 @@
+// A graph up to its nodes.
+ghost use mathlib.Core.Path.{_≡_};
+ghost use Prim.Native.Nat.{_^_, _<_, _≤_};
+ghost use mathlib.Core.Bool.{true};
+ghost use lib.ListN.{length, drop};
+ghost use Rattle.rules.specs.Verdict.{fills};
+ghost use Rattle.scope.specs.Scope.{walkIn, stepSays, grows, Keeps};
+ghost use Rattle.scope.specs.Recall.{Recalling, Minded};
+ghost use Rattle.index.specs.Memory.{known};
+ghost use Rattle.messages.specs.Answers.{rulingSays};
+ghost use Rattle.parts.specs.Again.{graphRules, opening};
+use crate::initializers::initializers;
+use crate::inputs::inputs;
+use scope::Index;
+use scope::Progress;
+use scope::Step;
+use scope::standing;
+use messages::Naming;
+use messages::Ruling;
+use messages::has;
+use messages::misnaming;
+use messages::numbers::GRAPH_NAME;
+use messages::numbers::GRAPH_SPARSE_INITIALIZER;
+use messages::read_name;
+use messages::refused;
+use wire::Field;
+
+// "its name (20, 21); 16"
+fn graph_rules(model: &[u8], f: Field) -> Ruling
+    ensures { λ r. ⌜ rulingSays r ≡ graphRules (now (model .entry)) f ⌝ }
+{
+    let naming = read_name(model, f, GRAPH_NAME, Ruling::GRAPH_NAME_EMPTY);
+    let Naming::Named(_) = naming else {
+        return misnaming(naming);
+    };
+    if has(model, f, GRAPH_SPARSE_INITIALIZER) {
+        return refused(
+            Ruling::SPARSE_INITIALIZER,
+            f.place_of(model, GRAPH_SPARSE_INITIALIZER),
+        );
+    }
+    Ruling::Kept
+}
+
+// "its name (20, 21); 16; inputs; initializers"
+pub fn opening(
+    model: &[u8],
+    cells: &mut [u32],
+    extra: &mut [u32],
+    ix: Index,
+    top: usize,
+    main: bool,
+    p: Progress,
+    f: Field,
+) -> Step
+    requires { ⌜ length (now model) < 2 ^ 32 ⌝ }
+    requires { ⌜ f .next ≤ length (now model) ⌝ }
+    requires { ⌜ Recalling (now model) ix (now cells) (now extra) ⌝ }
+    requires { ⌜ top ≤ known (drop (ix .split) (now extra)) ⌝ }
+    requires { ⌜ (main ≡ true → p .used ≡ 0) ⌝ }
+    ensures answer { λ r. ⌜ stepSays (now (model .entry)) (now (cells .exit)) r ≡ opening (now (model .entry)) (fills (length (now (cells .entry)))) main (walkIn (now (model .entry)) (now (cells .entry)) p) f ⌝ }
+    ensures grown { λ r. ⌜ grows p r ⌝ }
+    ensures kept { λ _. ⌜ Keeps (p .used) (now (cells .entry)) (now (cells .exit)) ⌝ }
+    ensures memory { λ _. ⌜ Minded (now (model .entry)) ix top (now (cells .exit)) (now (extra .entry)) (now (extra .exit)) ⌝ }
+{
+    let ruling = graph_rules(model, f);
+    let Ruling::Kept = ruling else {
+        return standing(p, ruling);
+    };
+    let step = inputs(model, cells, extra, ix, main, p, f);
+    let Step::Went(q) = step else {
+        return step;
+    };
+    initializers(model, cells, extra, ix, top, main, q, f)
+}
