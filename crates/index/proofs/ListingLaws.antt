@@ -1,5 +1,5 @@
 -- A list of names on a memory: a name more, what others do above it, and a list that is begun.
-use Prim.Native.Nat.{ℕ, zero, suc, _+_, _≤_, _<_}
+use Prim.Native.Nat.{ℕ, suc, _+_, _≤_, _<_}
 use native.Mathlib.Omega.{arith}
 use mathlib.Core.Path.{_≡_, refl, sym, ap, subst, _∙_}
 use mathlib.Core.Bool.{Bool, true, false, _||_}
@@ -14,7 +14,7 @@ use Rattle.index.specs.Memory.{known, tableOf, Remembers, Remembered}
 use Rattle.index.specs.Listing.{Listed, Held, Added}
 use Rattle.index.specs.declared.listings.Listing.{Listing}
 use Rattle.index.specs.declared.Found.the-variants as found
-use Rattle.index.proofs.TableLaws.{names-length}
+use Rattle.index.proofs.TableLaws.{names-length, names-same}
 use Rattle.index.proofs.UseLaws.{since-none, stays-fewer}
 
 -- ---- what a name at a place does to the names
@@ -30,17 +30,12 @@ put-below : (was : ℕ → Bytes) (place : ℕ) (y : Bytes) (i : ℕ) → i < pl
 unfolding put
 put-below was place y i h = ap (λ (b : Bool). elim b [ true ↦ y | false ↦ was i ]) (ne-eqb i place (λ e. omega arith))
 
-names-by : (model : Bytes) (a b : List ℕ) (n : ℕ) → ((i : ℕ) → i < n → nameOf model a i ≡ nameOf model b i) → namesIn model a n ≡ namesIn model b n
-unfolding namesIn
-names-by model a b zero h = refl
-names-by model a b (suc n) h = ap (λ (x : Bytes). x ∷ namesIn model a n) (h n (omega arith)) ∙ ap (λ (l : List Bytes). nameOf model b n ∷ l) (names-by model a b n (λ i l. h i (omega arith)))
-
 module _ {model : Bytes} {seed top : ℕ} {y : Bytes} {before after : List ℕ} (ix : Indexed model seed (tableOf before) (known before)) (r : Remembered model seed top y before after) where
   remembers : Remembers model seed (put (nameOf model (tableOf before)) top y) after
   remembers = r .memory (nameOf model (tableOf before)) (put (nameOf model (tableOf before)) top y) (record { index = ix; same = λ i h. refl }) (λ i h. put-below _ top y i h) (put-here _ top y)
 
   older : top ≤ known after → namesIn model (tableOf after) top ≡ namesIn model (tableOf before) top
-  older h = names-by model (tableOf after) (tableOf before) top (λ i l. remembers .same i (omega arith) ∙ put-below _ top y i l)
+  older h = names-same model (tableOf after) (tableOf before) top (λ i l. remembers .same i (omega arith) ∙ put-below _ top y i l)
 
   newer : top < known after → namesIn model (tableOf after) (suc top) ≡ y ∷ namesIn model (tableOf before) top
   unfolding namesIn

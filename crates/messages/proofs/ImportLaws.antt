@@ -196,7 +196,9 @@ module _ {model list : Bytes} {c : Cursor} (q : Importing model list c) {a : Sou
       importing-stops {x} k =
           ruled
           ∙ ruled-refused ruled k
-          ∙ sym (ap silent (left q ∙ ap (each (opsetImport model list) (q .imports)) (gone model c (q .ends) read e .list) ∙ ap (λ (o : Judged (List Bytes)). o >>= λ t. each (opsetImport model list) t (From model (next .at))) (silent-fails (opsetImport model list (q .imports) f) (ruled-refused agreed k))))
+          ∙ sym (ap silent (left q ∙ ap (each (opsetImport model list) (q .imports)) (gone model c (q .ends) read e .list) ∙ ap
+          (λ (o : Judged (List Bytes)). o >>= λ t. each (opsetImport model list) t (From model (next .at)))
+          (silent-fails (opsetImport model list (q .imports) f) (ruled-refused agreed k))))
 
       pub importing-goes : r ≡ ruling.Kept → Importing model list next
       unfolding each _>>=_

@@ -11,10 +11,6 @@ ghost use Rattle.messages.specs.Answers.{rulingSays};
 ghost use Rattle.parts.specs.Again.{graphRules, opening};
 use crate::initializers::initializers;
 use crate::inputs::inputs;
-use scope::Index;
-use scope::Progress;
-use scope::Step;
-use scope::standing;
 use messages::Naming;
 use messages::Ruling;
 use messages::has;
@@ -23,6 +19,10 @@ use messages::numbers::GRAPH_NAME;
 use messages::numbers::GRAPH_SPARSE_INITIALIZER;
 use messages::read_name;
 use messages::refused;
+use scope::Index;
+use scope::Progress;
+use scope::Step;
+use scope::standing;
 use wire::Field;
 
 // "its name (20, 21); 16"

@@ -50,14 +50,7 @@ fn sees_in(model: &[u8], cells: &[u32], names: &[u32], seed: u64, used: usize, n
 }
 
 // Is the name among those that the first `used` cells hold?
-pub fn sees(
-    model: &[u8],
-    cells: &[u32],
-    extra: &[u32],
-    ix: Index,
-    used: usize,
-    name: &[u8],
-) -> bool
+pub fn sees(model: &[u8], cells: &[u32], extra: &[u32], ix: Index, used: usize, name: &[u8]) -> bool
     requires { ⌜ Recalling (now model) ix (now cells) (now extra) ⌝ }
     ensures { λ r. ⌜ r ≡ visible (now (name .entry)) (scopeIn (now (model .entry)) (now (cells .entry)) used) ⌝ }
 {

@@ -76,10 +76,32 @@ abbrev node-below : ℕ → In 3 node-kinds.ps
 node-below t = and 3 node-kinds.ps (falls 3 node-kinds.ps _<_ μ-node t) node.Pre
 
 abbrev attribute-claims : ℕ → attribute-lts.Claims
-attribute-claims t = (attribute-head-reads.Asked, attribute-head-reads.Learnt, standing-reads.Asked, standing-reads.Learnt, number-of-reads.Asked, number-of-reads.Learnt, carrier-of-reads.Asked, carrier-of-reads.Learnt, is-body-reads.Asked, is-body-reads.Learnt, contents-reads.Asked, contents-reads.Learnt, next-of-reads.Asked, next-of-reads.Learnt, graph-below t, graph.Post, leaving-reads.Asked, leaving-reads.Learnt)
+attribute-claims t = (
+  attribute-head-reads.Asked,
+  attribute-head-reads.Learnt,
+  standing-reads.Asked,
+  standing-reads.Learnt,
+  number-of-reads.Asked,
+  number-of-reads.Learnt,
+  carrier-of-reads.Asked,
+  carrier-of-reads.Learnt,
+  is-body-reads.Asked,
+  is-body-reads.Learnt,
+  contents-reads.Asked,
+  contents-reads.Learnt,
+  next-of-reads.Asked,
+  next-of-reads.Learnt,
+  graph-below t,
+  graph.Post,
+  leaving-reads.Asked,
+  leaving-reads.Learnt,
+)
 
 abbrev attribute-Inv-loop : attribute-lts.InvT-loop
-attribute-Inv-loop model cells₀ extra₀ ix l left number c₀ q₀ cells extra c q = Going model number (c₀ .end) (c₀ .at) (λ size. body (Nested model left size)) (each (body (Nested model left (length cells₀))) (walkIn model cells₀ q₀) (allFrom model number (c₀ .end) (c₀ .at))) cells₀ q₀ cells q c × Minds model ix (l .top) cells extra × Minded model ix (l .top) cells extra₀ extra
+attribute-Inv-loop model cells₀ extra₀ ix l left number c₀ q₀ cells extra c q =
+    Going model number (c₀ .end) (c₀ .at) (λ size. body (Nested model left size)) (each (body (Nested model left (length cells₀))) (walkIn model
+    cells₀ q₀) (allFrom model number (c₀ .end) (c₀ .at))) cells₀ q₀ cells q c × Minds model ix (l .top) cells extra × Minded model ix (l .top)
+    cells extra₀ extra
 
 abbrev attribute-μ-loop : attribute-lts.MeasureT-loop
 attribute-μ-loop model cells₀ extra₀ ix l left number c₀ q₀ cells extra c q = c₀ .end - c .at
@@ -134,7 +156,9 @@ attribute-returns-3 t c =
     let c9 = c8 .before in
     let c11 = c9 .before .before in
     let c16 = c11 .before .before .before .before .before in
-    promised-and (bodies-done _ _ _ _ _ _ _ (c11 .attribute-head .ensures) (c9 .enum-told .given .1) (c8 .number-of .ensures) (c7 .carrier-of .ensures) (c6 .is-body .ensures) (not-false _ (c5 .if1 .left)) (c4 .contents .ensures) (c3 .loop .inv .0) (c2 .next-of .ensures) (c16 .pre .1 .0) (c .enum-told3 .given .1)) (c3 .loop .inv .2)
+    promised-and (bodies-done _ _ _ _ _ _ _ (c11 .attribute-head .ensures) (c9 .enum-told .given .1) (c8 .number-of .ensures) (c7 .carrier-of .ensures)
+    (c6 .is-body .ensures) (not-false _ (c5 .if1 .left)) (c4 .contents .ensures) (c3 .loop .inv .0) (c2 .next-of .ensures) (c16 .pre .1 .0)
+    (c .enum-told3 .given .1)) (c3 .loop .inv .2)
 
 attribute-graph-requires : (t : ℕ) → attribute-lts.Need-graph-requires (attribute-claims t) (attribute-at t) attribute.Post attribute-Inv-loop attribute-μ-loop
 unfolding contentsOf
@@ -171,7 +195,10 @@ attribute-returns-4 t c =
     let c18 = c17 .before in
     let c19 = c18 .before in
     let c21 = c19 .before .before in
-    promised-and (bodies-stop _ _ _ _ _ _ _ (c21 .attribute-head .ensures) (c19 .enum-told .given .1) (c18 .number-of .ensures) (c17 .carrier-of .ensures) (c16 .is-body .ensures) (not-false _ (c15 .if1 .left)) (c14 .contents .ensures) (c13 .loop .inv .0) (c12 .next-of .ensures) (c10 .sought .given .1) _ (c6 .graph .ensures .0) (c6 .graph .ensures .1 .0) (c6 .graph .ensures .1 .1 .0) (c6 .graph .ensures .1 .1 .1 .0) (c .enum-told4 .given .1)) (minded-then (c13 .loop .inv .2) (c6 .graph .ensures .1 .1 .1 .1))
+    promised-and (bodies-stop _ _ _ _ _ _ _ (c21 .attribute-head .ensures) (c19 .enum-told .given .1) (c18 .number-of .ensures) (c17 .carrier-of .ensures)
+    (c16 .is-body .ensures) (not-false _ (c15 .if1 .left)) (c14 .contents .ensures) (c13 .loop .inv .0) (c12 .next-of .ensures) (c10 .sought .given .1) _
+    (c6 .graph .ensures .0) (c6 .graph .ensures .1 .0) (c6 .graph .ensures .1 .1 .0) (c6 .graph .ensures .1 .1 .1 .0) (c .enum-told4 .given .1))
+    (minded-then (c13 .loop .inv .2) (c6 .graph .ensures .1 .1 .1 .1))
 
 attribute-loop-less : (t : ℕ) → attribute-lts.Need-loop-less (attribute-claims t) (attribute-at t) attribute.Post attribute-Inv-loop attribute-μ-loop
 attribute-loop-less t c =
@@ -193,14 +220,41 @@ attribute-loop-again t c =
     let c19 = c18 .before in
     let c20 = c19 .before in
     let c21 = c20 .before in
-    let c23 = c21 .before .before in
-    (bodies-go _ _ _ _ _ _ _ (c23 .attribute-head .ensures) (c21 .enum-told .given .1) (c20 .number-of .ensures) (c19 .carrier-of .ensures) (c18 .is-body .ensures) (not-false _ (c17 .if1 .left)) (c16 .contents .ensures) (c15 .loop .inv .0) (c14 .next-of .ensures) (c12 .sought .given .1) _ (c8 .graph .ensures .0) (c8 .graph .ensures .1 .0) (c8 .graph .ensures .1 .1 .0) (c8 .graph .ensures .1 .1 .1 .0) (c2 .step .given .1) (c .leaving .ensures), minds-still (c15 .loop .inv .1) (c8 .graph .ensures .1 .1 .1 .1), minded-then (c15 .loop .inv .2) (c8 .graph .ensures .1 .1 .1 .1))
+    let c23 = c21 .before .before in (
+      bodies-go _ _ _ _ _ _ _ (c23 .attribute-head .ensures) (c21 .enum-told .given .1) (c20 .number-of .ensures) (c19 .carrier-of .ensures)
+          (c18 .is-body .ensures) (not-false _ (c17 .if1 .left)) (c16 .contents .ensures) (c15 .loop .inv .0) (c14 .next-of .ensures) (c12 .sought .given .1) _
+          (c8 .graph .ensures .0) (c8 .graph .ensures .1 .0) (c8 .graph .ensures .1 .1 .0) (c8 .graph .ensures .1 .1 .1 .0) (c2 .step .given .1)
+          (c .leaving .ensures),
+      minds-still (c15 .loop .inv .1) (c8 .graph .ensures .1 .1 .1 .1),
+      minded-then (c15 .loop .inv .2)
+          (c8 .graph .ensures .1 .1 .1 .1),
+    )
 
 abbrev graph-claims : ℕ → graph-lts.Claims
-graph-claims t = (stopped-reads.Asked, stopped-reads.Learnt, opening-reads.Asked, opening-reads.Learnt, contents-reads.Asked, contents-reads.Learnt, next-of-reads.Asked, next-of-reads.Learnt, graph-outputs-reads.Asked, graph-outputs-reads.Learnt, standing-reads.Asked, standing-reads.Learnt, node-below t, node.Post, list-reads.Asked, list-reads.Learnt)
+graph-claims t = (
+  stopped-reads.Asked,
+  stopped-reads.Learnt,
+  opening-reads.Asked,
+  opening-reads.Learnt,
+  contents-reads.Asked,
+  contents-reads.Learnt,
+  next-of-reads.Asked,
+  next-of-reads.Learnt,
+  graph-outputs-reads.Asked,
+  graph-outputs-reads.Learnt,
+  standing-reads.Asked,
+  standing-reads.Learnt,
+  node-below t,
+  node.Post,
+  list-reads.Asked,
+  list-reads.Learnt,
+)
 
 abbrev graph-Inv-loop : graph-lts.InvT-loop
-graph-Inv-loop model cells₀ extra₀ ix top left main f c₀ q₀ l₀ cells extra c q l = Going model Graph·node (f .next) (f .start) (λ size. nodeAgain model (fills size) (Nested model (left - 1) size) f) (each (nodeAgain model (fills (length cells₀)) (Nested model (left - 1) (length cells₀)) f) (walkIn model cells₀ q₀) (allFrom model Graph·node (f .next) (f .start))) cells₀ q₀ cells q c × Lists model ix top Graph·node Node·name f extra₀ cells extra l c × Minds model ix top cells extra
+graph-Inv-loop model cells₀ extra₀ ix top left main f c₀ q₀ l₀ cells extra c q l =
+    Going model Graph·node (f .next) (f .start) (λ size. nodeAgain model (fills size) (Nested model (left - 1) size) f) (each (nodeAgain model
+    (fills (length cells₀)) (Nested model (left - 1) (length cells₀)) f) (walkIn model cells₀ q₀) (allFrom model Graph·node (f .next) (f .start)))
+    cells₀ q₀ cells q c × Lists model ix top Graph·node Node·name f extra₀ cells extra l c × Minds model ix top cells extra
 
 abbrev graph-μ-loop : graph-lts.MeasureT-loop
 graph-μ-loop model cells₀ extra₀ ix top left main f c₀ q₀ l₀ cells extra c q l = f .next - c .at
@@ -257,7 +311,9 @@ graph-returns-3 t c =
     let c16 = c10 .before .before .before .before .before .before in
     let c19 = c16 .before .before .before in
     let c23 = c19 .before .before .before .before in
-    promised-and (nodes-done _ _ _ _ _ _ (c19 .if1 .left) _ _ (c16 .opening .ensures .0) (c16 .opening .ensures .1 .1 .0) (c10 .opened .given .1) (c16 .opening .ensures .1 .0) (c7 .loop .inv .0) (c6 .next-of .ensures) (c23 .pre .1 .0) (c4 .enum-told2 .given .1) _ (c1 .graph-outputs .ensures (context _ _) refl) (c .standing .ensures)) (minded-then (c16 .opening .ensures .1 .1 .1) (c7 .loop .inv .1 .minded))
+    promised-and (nodes-done _ _ _ _ _ _ (c19 .if1 .left) _ _ (c16 .opening .ensures .0) (c16 .opening .ensures .1 .1 .0) (c10 .opened .given .1)
+    (c16 .opening .ensures .1 .0) (c7 .loop .inv .0) (c6 .next-of .ensures) (c23 .pre .1 .0) (c4 .enum-told2 .given .1) _ (c1 .graph-outputs .ensures
+    (context _ _) refl) (c .standing .ensures)) (minded-then (c16 .opening .ensures .1 .1 .1) (c7 .loop .inv .1 .minded))
 
 graph-sub-node : (t : ℕ) → graph-lts.Need-sub-node (graph-claims t) (graph-at t) graph.Post graph-Inv-loop graph-μ-loop
 graph-sub-node t c =
@@ -272,8 +328,15 @@ graph-node-requires t c κs =
     let c9 = c6 .before .before .before in
     let c15 = c9 .before .before .before .before .before .before in
     let c18 = c15 .before .before .before in
-    let c22 = c18 .before .before .before .before in
-    (going-shorter (c6 .loop .inv .0) (c5 .next-of .ensures) (c3 .sought .given .1) (c22 .pre .0), (going-enters (c6 .loop .inv .0) (c5 .next-of .ensures) (c3 .sought .given .1) (c22 .pre .1 .0 .short) (c22 .pre .1 .0 .inside) (first-low _ _ _ _ _ _ (c18 .if1 .left) _ _ (c15 .opening .ensures .0) (c15 .opening .ensures .1 .1 .0) (c9 .opened .given .1) (c22 .pre .1 .0)), (minds-higher (c6 .loop .inv .2) (c6 .loop .inv .1 .above) (lists-fits (c6 .loop .inv .1)), lists-found (c6 .loop .inv .1) (c5 .next-of .ensures) (c3 .sought .given .1))))
+    let c22 = c18 .before .before .before .before in (
+      going-shorter (c6 .loop .inv .0) (c5 .next-of .ensures) (c3 .sought .given .1) (c22 .pre .0),
+      (
+        going-enters (c6 .loop .inv .0) (c5 .next-of .ensures)
+            (c3 .sought .given .1) (c22 .pre .1 .0 .short) (c22 .pre .1 .0 .inside)
+            (first-low _ _ _ _ _ _ (c18 .if1 .left) _ _ (c15 .opening .ensures .0) (c15 .opening .ensures .1 .1 .0) (c9 .opened .given .1) (c22 .pre .1 .0)),
+        (minds-higher (c6 .loop .inv .2) (c6 .loop .inv .1 .above) (lists-fits (c6 .loop .inv .1)), lists-found (c6 .loop .inv .1) (c5 .next-of .ensures) (c3 .sought .given .1)),
+      ),
+    )
 
 graph-same-length-5 : (t : ℕ) → graph-lts.Need-same-length-5 (graph-claims t) (graph-at t) graph.Post graph-Inv-loop graph-μ-loop
 graph-same-length-5 t c =
@@ -298,7 +361,10 @@ graph-returns-4 t c =
     let c16 = c13 .before .before .before in
     let c22 = c16 .before .before .before .before .before .before in
     let c25 = c22 .before .before .before in
-    promised-and (nodes-stop _ _ _ _ _ _ (c25 .if1 .left) _ _ (c22 .opening .ensures .0) (c22 .opening .ensures .1 .1 .0) (c16 .opened .given .1) (c22 .opening .ensures .1 .0) (c13 .loop .inv .0) (c12 .next-of .ensures) (c10 .sought .given .1) _ (c6 .node .ensures .0) (c6 .node .ensures .1 .0) (c6 .node .ensures .1 .1 .1 .0) (c .enum-told3 .given .1)) (minded-then (c22 .opening .ensures .1 .1 .1) (minded-then (c13 .loop .inv .1 .minded) (minded-fewer (c13 .loop .inv .1 .above) (c6 .node .ensures .1 .1 .1 .1))))
+    promised-and (nodes-stop _ _ _ _ _ _ (c25 .if1 .left) _ _ (c22 .opening .ensures .0) (c22 .opening .ensures .1 .1 .0) (c16 .opened .given .1)
+    (c22 .opening .ensures .1 .0) (c13 .loop .inv .0) (c12 .next-of .ensures) (c10 .sought .given .1) _ (c6 .node .ensures .0) (c6 .node .ensures .1 .0)
+    (c6 .node .ensures .1 .1 .1 .0) (c .enum-told3 .given .1)) (minded-then (c22 .opening .ensures .1 .1 .1) (minded-then (c13 .loop .inv .1 .minded)
+    (minded-fewer (c13 .loop .inv .1 .above) (c6 .node .ensures .1 .1 .1 .1))))
 
 graph-list-requires : (t : ℕ) → graph-lts.Need-list-requires (graph-claims t) (graph-at t) graph.Post graph-Inv-loop graph-μ-loop
 graph-list-requires t c κs =
@@ -320,14 +386,38 @@ graph-loop-again t c =
     let c11 = c5 .before .before .before .before .before .before in
     let c15 = c11 .before .before .before .before in
     let c17 = c15 .before .before in
-    let c18 = c17 .before in
-    (going-goes (c18 .loop .inv .0) (c17 .next-of .ensures) (c15 .sought .given .1) _ (c11 .node .ensures .0) (c11 .node .ensures .1 .0) (c11 .node .ensures .1 .1 .1 .0) (c11 .node .ensures .1 .1 .0) (c5 .step .given .1), lists-next (c18 .loop .inv .1) (c17 .next-of .ensures) (c15 .sought .given .1) (c11 .node .ensures .1 .1 .1 .1) (c2 .list .ensures), lists-minds (c18 .loop .inv .1) (c17 .next-of .ensures) (c15 .sought .given .1) (c18 .loop .inv .2) (c11 .node .ensures .1 .1 .1 .1) (c2 .list .ensures))
+    let c18 = c17 .before in (
+      going-goes (c18 .loop .inv .0) (c17 .next-of .ensures) (c15 .sought .given .1) _ (c11 .node .ensures .0) (c11 .node .ensures .1 .0)
+          (c11 .node .ensures .1 .1 .1 .0) (c11 .node .ensures .1 .1 .0) (c5 .step .given .1),
+      lists-next (c18 .loop .inv .1) (c17 .next-of .ensures)
+          (c15 .sought .given .1) (c11 .node .ensures .1 .1 .1 .1) (c2 .list .ensures),
+      lists-minds (c18 .loop .inv .1) (c17 .next-of .ensures)
+          (c15 .sought .given .1) (c18 .loop .inv .2) (c11 .node .ensures .1 .1 .1 .1) (c2 .list .ensures),
+    )
 
 abbrev node-claims : ℕ → node-lts.Claims
-node-claims t = (node-rules-reads.Asked, node-rules-reads.Learnt, standing-reads.Asked, standing-reads.Learnt, contents-reads.Asked, contents-reads.Learnt, next-of-reads.Asked, next-of-reads.Learnt, closing-reads.Asked, closing-reads.Learnt, attribute-below t, attribute.Post, list-reads.Asked, list-reads.Learnt)
+node-claims t = (
+  node-rules-reads.Asked,
+  node-rules-reads.Learnt,
+  standing-reads.Asked,
+  standing-reads.Learnt,
+  contents-reads.Asked,
+  contents-reads.Learnt,
+  next-of-reads.Asked,
+  next-of-reads.Learnt,
+  closing-reads.Asked,
+  closing-reads.Learnt,
+  attribute-below t,
+  attribute.Post,
+  list-reads.Asked,
+  list-reads.Learnt,
+)
 
 abbrev node-Inv-loop : node-lts.InvT-loop
-node-Inv-loop model cells₀ extra₀ ix left f c₀ q₀ own₀ cells extra c q own = Going model Node·attribute (f .next) (f .start) (λ size. attributeAgain model (fills size) (Nested model left size) f) (each (attributeAgain model (fills (length cells₀)) (Nested model left (length cells₀)) f) (walkIn model cells₀ q₀) (allFrom model Node·attribute (f .next) (f .start))) cells₀ q₀ cells q c × Lists model ix (own₀ .top) Node·attribute Attribute·name f extra₀ cells extra own c × Minds model ix (own₀ .top) cells extra
+node-Inv-loop model cells₀ extra₀ ix left f c₀ q₀ own₀ cells extra c q own =
+    Going model Node·attribute (f .next) (f .start) (λ size. attributeAgain model (fills size) (Nested model left size) f) (each (attributeAgain model
+    (fills (length cells₀)) (Nested model left (length cells₀)) f) (walkIn model cells₀ q₀) (allFrom model Node·attribute (f .next) (f .start))) cells₀ q₀
+    cells q c × Lists model ix (own₀ .top) Node·attribute Attribute·name f extra₀ cells extra own c × Minds model ix (own₀ .top) cells extra
 
 abbrev node-μ-loop : node-lts.MeasureT-loop
 node-μ-loop model cells₀ extra₀ ix left f c₀ q₀ own₀ cells extra c q own = f .next - c .at
@@ -377,15 +467,23 @@ node-returns-2 t c =
     let c12 = c10 .before .before in
     let c14 = c12 .before .before in
     let c20 = c14 .before .before .before .before .before .before in
-    promised-and (attributes-done _ _ _ _ _ _ _ (c14 .node-rules .ensures) (c12 .enum-told .given .1) (c10 .loop .inv .0) (c9 .next-of .ensures) (c20 .pre .1 .0) (c7 .enum-told3 .given .1) _ (c4 .closing .ensures .0) (c4 .closing .ensures .1 .0) (c4 .closing .ensures .1 .1 .0)) (minded-then (c10 .loop .inv .1 .minded) (minded-recalled (c10 .loop .inv .1 .minded .held .fits) (c4 .closing .ensures .1 .1 .1)))
+    promised-and (attributes-done _ _ _ _ _ _ _ (c14 .node-rules .ensures) (c12 .enum-told .given .1) (c10 .loop .inv .0) (c9 .next-of .ensures)
+    (c20 .pre .1 .0) (c7 .enum-told3 .given .1) _ (c4 .closing .ensures .0) (c4 .closing .ensures .1 .0) (c4 .closing .ensures .1 .1 .0)) (minded-then
+    (c10 .loop .inv .1 .minded) (minded-recalled (c10 .loop .inv .1 .minded .held .fits) (c4 .closing .ensures .1 .1 .1)))
 
 node-attribute-requires : (t : ℕ) → node-lts.Need-attribute-requires (node-claims t) (node-at t) node.Post node-Inv-loop node-μ-loop
 node-attribute-requires t c κs =
     let c3 = c .before .before .before in
     let c5 = c3 .before .before in
     let c6 = c5 .before in
-    let c16 = c6 .before .before .before .before .before .before .before .before .before .before in
-    (going-shorter (c6 .loop .inv .0) (c5 .next-of .ensures) (c3 .sought .given .1) (c16 .pre .0), (going-enters (c6 .loop .inv .0) (c5 .next-of .ensures) (c3 .sought .given .1) (c16 .pre .1 .0 .short) (c16 .pre .1 .0 .inside) (enters-low (c16 .pre .1 .0)), (minds-higher (c6 .loop .inv .2) (c6 .loop .inv .1 .above) (lists-fits (c6 .loop .inv .1)), lists-found (c6 .loop .inv .1) (c5 .next-of .ensures) (c3 .sought .given .1))))
+    let c16 = c6 .before .before .before .before .before .before .before .before .before .before in (
+      going-shorter (c6 .loop .inv .0) (c5 .next-of .ensures) (c3 .sought .given .1) (c16 .pre .0),
+      (
+        going-enters (c6 .loop .inv .0) (c5 .next-of .ensures)
+            (c3 .sought .given .1) (c16 .pre .1 .0 .short) (c16 .pre .1 .0 .inside) (enters-low (c16 .pre .1 .0)),
+        (minds-higher (c6 .loop .inv .2) (c6 .loop .inv .1 .above) (lists-fits (c6 .loop .inv .1)), lists-found (c6 .loop .inv .1) (c5 .next-of .ensures) (c3 .sought .given .1)),
+      ),
+    )
 
 node-same-length-5 : (t : ℕ) → node-lts.Need-same-length-5 (node-claims t) (node-at t) node.Post node-Inv-loop node-μ-loop
 node-same-length-5 t c =
@@ -407,7 +505,9 @@ node-returns-3 t c =
     let c13 = c12 .before in
     let c15 = c13 .before .before in
     let c17 = c15 .before .before in
-    promised-and (attributes-stop _ _ _ _ _ _ _ (c17 .node-rules .ensures) (c15 .enum-told .given .1) (c13 .loop .inv .0) (c12 .next-of .ensures) (c10 .sought .given .1) _ (c6 .attribute .ensures .0) (c6 .attribute .ensures .1 .0) (c6 .attribute .ensures .1 .1 .1 .0) (c .enum-told4 .given .1)) (minded-then (c13 .loop .inv .1 .minded) (minded-fewer (c13 .loop .inv .1 .above) (c6 .attribute .ensures .1 .1 .1 .1)))
+    promised-and (attributes-stop _ _ _ _ _ _ _ (c17 .node-rules .ensures) (c15 .enum-told .given .1) (c13 .loop .inv .0) (c12 .next-of .ensures)
+    (c10 .sought .given .1) _ (c6 .attribute .ensures .0) (c6 .attribute .ensures .1 .0) (c6 .attribute .ensures .1 .1 .1 .0) (c .enum-told4 .given .1))
+    (minded-then (c13 .loop .inv .1 .minded) (minded-fewer (c13 .loop .inv .1 .above) (c6 .attribute .ensures .1 .1 .1 .1)))
 
 node-list-requires : (t : ℕ) → node-lts.Need-list-requires (node-claims t) (node-at t) node.Post node-Inv-loop node-μ-loop
 node-list-requires t c κs =
@@ -429,8 +529,14 @@ node-loop-again t c =
     let c11 = c5 .before .before .before .before .before .before in
     let c15 = c11 .before .before .before .before in
     let c17 = c15 .before .before in
-    let c18 = c17 .before in
-    (going-goes (c18 .loop .inv .0) (c17 .next-of .ensures) (c15 .sought .given .1) _ (c11 .attribute .ensures .0) (c11 .attribute .ensures .1 .0) (c11 .attribute .ensures .1 .1 .1 .0) (c11 .attribute .ensures .1 .1 .0) (c5 .step .given .1), lists-next (c18 .loop .inv .1) (c17 .next-of .ensures) (c15 .sought .given .1) (c11 .attribute .ensures .1 .1 .1 .1) (c2 .list .ensures), lists-minds (c18 .loop .inv .1) (c17 .next-of .ensures) (c15 .sought .given .1) (c18 .loop .inv .2) (c11 .attribute .ensures .1 .1 .1 .1) (c2 .list .ensures))
+    let c18 = c17 .before in (
+      going-goes (c18 .loop .inv .0) (c17 .next-of .ensures) (c15 .sought .given .1) _ (c11 .attribute .ensures .0) (c11 .attribute .ensures .1 .0)
+          (c11 .attribute .ensures .1 .1 .1 .0) (c11 .attribute .ensures .1 .1 .0) (c5 .step .given .1),
+      lists-next (c18 .loop .inv .1) (c17 .next-of .ensures)
+          (c15 .sought .given .1) (c11 .attribute .ensures .1 .1 .1 .1) (c2 .list .ensures),
+      lists-minds (c18 .loop .inv .1) (c17 .next-of .ensures)
+          (c15 .sought .given .1) (c18 .loop .inv .2) (c11 .attribute .ensures .1 .1 .1 .1) (c2 .list .ensures),
+    )
 
 pub +attribute+graph+node-spec : {M : Type 1} → statement M
 +attribute+graph+node-spec = close μ-attribute μ-graph μ-node (λ t. attribute-lts.spec (attribute-claims t) (attribute-at t) attribute.Post attribute-Inv-loop attribute-μ-loop

@@ -40,8 +40,11 @@ returns-3 c =
     let c6 = c5 .before in
     let c7 = c6 .before in
     let c8 = c7 .before in
-    let c12 = c8 .before .before .before .before in
-    (c .unheaded3 .ensures .0 ∙ header-import _ _ (c8 .whole .ensures) (c7 .number-from .ensures) (c6 .is-ir-version .ensures) (not-false _ (c5 .if1 .left)) (c4 .has-from .ensures) (not-false _ (c3 .if2 .left)) (c2 .has-from2 .ensures) (not-true _ (c1 .if3 .taken)), (c .unheaded3 .ensures .1 _ _ _, held-all (c12 .pre .1 .0) (omega arith)))
+    let c12 = c8 .before .before .before .before in (
+      c .unheaded3 .ensures .0 ∙ header-import _ _ (c8 .whole .ensures) (c7 .number-from .ensures) (c6 .is-ir-version .ensures) (not-false _
+          (c5 .if1 .left)) (c4 .has-from .ensures) (not-false _ (c3 .if2 .left)) (c2 .has-from2 .ensures) (not-true _ (c1 .if3 .taken)),
+      (c .unheaded3 .ensures .1 _ _ _, held-all (c12 .pre .1 .0) (omega arith)),
+    )
 
 returns-4 : tie.Need-returns-4
 returns-4 c =
@@ -53,8 +56,12 @@ returns-4 c =
     let c10 = c9 .before in
     let c11 = c10 .before in
     let c12 = c11 .before in
-    let c13 = c12 .before in
-    (header-imports-refused _ _ (c13 .whole .ensures) (c12 .number-from .ensures) (c11 .is-ir-version .ensures) (not-false _ (c10 .if1 .left)) (c9 .has-from .ensures) (not-false _ (c8 .if2 .left)) (c7 .has-from2 .ensures) (not-false _ (c6 .if3 .left)) _ (c4 .opset-imports .ensures .0) (refused-heading (c .enum-told .given .1)), c4 .opset-imports .ensures .1)
+    let c13 = c12 .before in (
+      header-imports-refused _ _ (c13 .whole .ensures) (c12 .number-from .ensures) (c11 .is-ir-version .ensures) (not-false _ (c10 .if1 .left))
+          (c9 .has-from .ensures) (not-false _ (c8 .if2 .left)) (c7 .has-from2 .ensures) (not-false _ (c6 .if3 .left)) _ (c4 .opset-imports .ensures .0)
+          (refused-heading (c .enum-told .given .1)),
+      c4 .opset-imports .ensures .1,
+    )
 
 returns-5 : tie.Need-returns-5
 returns-5 c =
@@ -70,8 +77,12 @@ returns-5 c =
     let c15 = c14 .before in
     let c16 = c15 .before in
     let c17 = c16 .before in
-    let c18 = c17 .before in
-    (c .unheaded4 .ensures .0 ∙ header-functions _ _ (c18 .whole .ensures) (c17 .number-from .ensures) (c16 .is-ir-version .ensures) (not-false _ (c15 .if1 .left)) (c14 .has-from .ensures) (not-false _ (c13 .if2 .left)) (c12 .has-from2 .ensures) (not-false _ (c11 .if3 .left)) _ (c9 .opset-imports .ensures .0) (imported-heading (c5 .heading .given .1)) (c3 .has-from3 .ensures) (c2 .if4 .taken) (c1 .place-of2 .ensures), (c .unheaded4 .ensures .1 _ _ _, c9 .opset-imports .ensures .1 .1))
+    let c18 = c17 .before in (
+      c .unheaded4 .ensures .0 ∙ header-functions _ _ (c18 .whole .ensures) (c17 .number-from .ensures) (c16 .is-ir-version .ensures) (not-false _
+          (c15 .if1 .left)) (c14 .has-from .ensures) (not-false _ (c13 .if2 .left)) (c12 .has-from2 .ensures) (not-false _ (c11 .if3 .left)) _
+          (c9 .opset-imports .ensures .0) (imported-heading (c5 .heading .given .1)) (c3 .has-from3 .ensures) (c2 .if4 .taken) (c1 .place-of2 .ensures),
+      (c .unheaded4 .ensures .1 _ _ _, c9 .opset-imports .ensures .1 .1),
+    )
 
 returns-6 : tie.Need-returns-6
 unfolding rulingSays rulingOf
@@ -86,8 +97,16 @@ returns-6 c =
     let c13 = c12 .before in
     let c14 = c13 .before in
     let c15 = c14 .before in
-    let c16 = c15 .before in
-    (header-kept _ _ (c16 .whole .ensures) (c15 .number-from .ensures) (c14 .is-ir-version .ensures) (not-false _ (c13 .if1 .left)) (c12 .has-from .ensures) (not-false _ (c11 .if2 .left)) (c10 .has-from2 .ensures) (not-false _ (c9 .if3 .left)) _ (c7 .opset-imports .ensures .0) (imported-heading (c3 .heading .given .1)) (c1 .has-from3 .ensures) (c .if4 .left), (holds-as (c3 .heading .given .1) _ _ _ (c7 .opset-imports .ensures .1 .0), c7 .opset-imports .ensures .1 .1))
+    let c16 = c15 .before in (
+      header-kept _ _ (c16 .whole .ensures) (c15 .number-from .ensures) (c14 .is-ir-version .ensures) (not-false _ (c13 .if1 .left))
+          (c12 .has-from .ensures) (not-false _ (c11 .if2 .left)) (c10 .has-from2 .ensures) (not-false _ (c9 .if3 .left)) _ (c7 .opset-imports .ensures .0)
+          (imported-heading (c3 .heading .given .1)) (c1 .has-from3 .ensures) (c .if4 .left),
+      (
+        holds-as (c3 .heading .given .1) _ _ _
+            (c7 .opset-imports .ensures .1 .0),
+        c7 .opset-imports .ensures .1 .1,
+      ),
+    )
 
 number-from-requires : tie.Need-number-from-requires
 number-from-requires c κs =

@@ -40,8 +40,11 @@ returns-2 c =
     let c3 = c1 .before .before in
     let c6 = c3 .before .before .before in
     let c8 = c6 .before .before in
-    let c9 = c8 .before in
-    (ap rulingSays (headed-same _ _ (c .headed .ensures)) ∙ importing-stops (c9 .loop .inv .importing) (c8 .next-of .ensures) (c6 .sought .given .1) _ (c3 .opset-import .ensures) (c1 .enum-told3 .given .1), (headed-holds _ _ (c .headed .ensures) (c1 .enum-told3 .given .1) _ _ _, c9 .loop .inv .held))
+    let c9 = c8 .before in (
+      ap rulingSays (headed-same _ _ (c .headed .ensures)) ∙ importing-stops (c9 .loop .inv .importing) (c8 .next-of .ensures) (c6 .sought .given .1) _
+          (c3 .opset-import .ensures) (c1 .enum-told3 .given .1),
+      (headed-holds _ _ (c .headed .ensures) (c1 .enum-told3 .given .1) _ _ _, c9 .loop .inv .held),
+    )
 
 list-import-requires : tie.Need-list-import-requires Inv-loop μ-loop
 list-import-requires c κs =

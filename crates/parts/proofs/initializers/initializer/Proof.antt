@@ -13,8 +13,14 @@ default-or-new-requires : tie.Need-default-or-new-requires
 default-or-new-requires c κs =
     let c3 = c .before .before .before in
     let c5 = c3 .before .before in
-    let c9 = c5 .before .before .before .before in
-    (named-placed _ _ _ _ (c5 .read-name .ensures) (c3 .name .given .1) _ (c9 .pre .0) (c9 .pre .1 .0), (named-there _ _ _ _ (c5 .read-name .ensures) (c3 .name .given .1) (c9 .pre .1 .0), (c9 .pre .0, (c9 .pre .1 .1 .0, (c9 .pre .1 .1 .1 .0, (c9 .pre .1 .1 .1 .1, named-some _ _ _ _ _ (c5 .read-name .ensures) (c3 .name .given .1)))))))
+    let c9 = c5 .before .before .before .before in (
+      named-placed _ _ _ _ (c5 .read-name .ensures) (c3 .name .given .1) _ (c9 .pre .0) (c9 .pre .1 .0),
+      (
+        named-there _ _ _ _ (c5 .read-name .ensures)
+            (c3 .name .given .1) (c9 .pre .1 .0),
+        (c9 .pre .0, (c9 .pre .1 .1 .0, (c9 .pre .1 .1 .1 .0, (c9 .pre .1 .1 .1 .1, named-some _ _ _ _ _ (c5 .read-name .ensures) (c3 .name .given .1))))),
+      ),
+    )
 
 returns : tie.Need-returns
 returns c =
@@ -31,8 +37,14 @@ returns-2 c =
     let c4 = c2 .before .before in
     let c10 = c4 .before .before .before .before .before .before in
     let c14 = c10 .before .before .before .before in
-    let c16 = c14 .before .before in
-    (initializer-goes _ _ _ _ _ _ _ (c16 .read-name .ensures) (c14 .name .given .1) _ _ (c10 .default-or-new .ensures .0) (c4 .step .given .1) (c2 .number-of .ensures) (c1 .is-element .ensures) (c .if1 .taken), (subst (grows _) (c4 .step .given .1) (c10 .default-or-new .ensures .1 .0), c10 .default-or-new .ensures .1 .1))
+    let c16 = c14 .before .before in (
+      initializer-goes _ _ _ _ _ _ _ (c16 .read-name .ensures) (c14 .name .given .1) _ _ (c10 .default-or-new .ensures .0) (c4 .step .given .1)
+          (c2 .number-of .ensures) (c1 .is-element .ensures) (c .if1 .taken),
+      (
+        subst (grows _) (c4 .step .given .1) (c10 .default-or-new .ensures .1 .0),
+        c10 .default-or-new .ensures .1 .1,
+      ),
+    )
 
 returns-3 : tie.Need-returns-3
 unfolding stepSays grows
@@ -51,8 +63,14 @@ returns-4 c =
     let c6 = c4 .before .before in
     let c12 = c6 .before .before .before .before .before .before in
     let c16 = c12 .before .before .before .before in
-    let c18 = c16 .before .before in
-    (c .stopped .ensures .0 _ _ ∙ initializer-mistyped _ _ _ _ _ _ _ (c18 .read-name .ensures) (c16 .name .given .1) _ _ (c12 .default-or-new .ensures .0) (c6 .step .given .1) (c4 .number-of .ensures) (c3 .is-element .ensures) (c2 .if1 .left) (c1 .place-of .ensures), (c .stopped .ensures .1 _, c12 .default-or-new .ensures .1 .1))
+    let c18 = c16 .before .before in (
+      c .stopped .ensures .0 _ _ ∙ initializer-mistyped _ _ _ _ _ _ _ (c18 .read-name .ensures) (c16 .name .given .1) _ _ (c12 .default-or-new .ensures .0)
+          (c6 .step .given .1) (c4 .number-of .ensures) (c3 .is-element .ensures) (c2 .if1 .left) (c1 .place-of .ensures),
+      (
+        c .stopped .ensures .1 _,
+        c12 .default-or-new .ensures .1 .1,
+      ),
+    )
 
 pub initializer-spec : {M : Type 1} → statement M
 initializer-spec =

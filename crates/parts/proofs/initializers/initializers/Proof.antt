@@ -21,7 +21,10 @@ use Rattle.parts.proofs.initializers.initializers.Statement.{statement}
 use Rattle.parts.proofs.initializers.initializers.Tie as tie
 
 abbrev Inv-loop : tie.InvT-loop
-Inv-loop model cells₀ extra₀ ix top main graph inputs c₀ q₀ l₀ cells extra c q l = Adding model Graph·initializer (c₀ .end) (λ n. initializerAgain model (fills n) main graph) (each (initializerAgain model (fills (length cells₀)) main graph) (walkIn model cells₀ q₀) (allFrom model Graph·initializer (c₀ .end) (c₀ .at))) cells₀ q₀ cells q c × Lists model ix top Graph·initializer Tensor·name graph extra₀ cells extra l c × Defaultable model main graph cells inputs × (inputs ≤ q .used)
+Inv-loop model cells₀ extra₀ ix top main graph inputs c₀ q₀ l₀ cells extra c q l =
+    Adding model Graph·initializer (c₀ .end) (λ n. initializerAgain model (fills n) main graph) (each (initializerAgain model
+    (fills (length cells₀)) main graph) (walkIn model cells₀ q₀) (allFrom model Graph·initializer (c₀ .end) (c₀ .at))) cells₀ q₀ cells q
+    c × Lists model ix top Graph·initializer Tensor·name graph extra₀ cells extra l c × Defaultable model main graph cells inputs × (inputs ≤ q .used)
 
 abbrev μ-loop : tie.MeasureT-loop
 μ-loop model cells₀ extra₀ ix top main graph inputs c₀ q₀ l₀ cells extra c q l = c₀ .end - c .at
@@ -49,8 +52,14 @@ initializer-requires c κs =
     let c5 = c3 .before .before in
     let c6 = c5 .before in
     let c7 = c6 .before in
-    let c11 = c7 .before .before .before .before in
-    (c11 .pre .0, (le-trans (adding-inside (c6 .loop .inv .0) (c5 .next-of .ensures) (c3 .sought .given .1)) (contents-inside _ _ (c7 .contents .ensures) (c11 .pre .1 .0)), (c6 .loop .inv .1 .minded .recalls, (c6 .loop .inv .2, lists-found (c6 .loop .inv .1) (c5 .next-of .ensures) (c3 .sought .given .1)))))
+    let c11 = c7 .before .before .before .before in (
+      c11 .pre .0,
+      (
+        le-trans (adding-inside (c6 .loop .inv .0) (c5 .next-of .ensures) (c3 .sought .given .1))
+            (contents-inside _ _ (c7 .contents .ensures) (c11 .pre .1 .0)),
+        (c6 .loop .inv .1 .minded .recalls, (c6 .loop .inv .2, lists-found (c6 .loop .inv .1) (c5 .next-of .ensures) (c3 .sought .given .1))),
+      ),
+    )
 
 returns-2 : tie.Need-returns-2 Inv-loop μ-loop
 returns-2 c =
@@ -75,8 +84,15 @@ loop-again c =
     let c11 = c5 .before .before .before .before .before .before in
     let c15 = c11 .before .before .before .before in
     let c17 = c15 .before .before in
-    let c18 = c17 .before in
-    (adding-goes (c18 .loop .inv .0) (c17 .next-of .ensures) (c15 .sought .given .1) _ (c11 .initializer .ensures .0) (c11 .initializer .ensures .1 .0) (c11 .initializer .ensures .1 .1 .0) (c5 .step .given .1), lists-next (c18 .loop .inv .1) (c17 .next-of .ensures) (c15 .sought .given .1) (minded-recalled (lists-fits (c18 .loop .inv .1)) (c11 .initializer .ensures .1 .1 .1)) (c2 .list .ensures), default-kept (c18 .loop .inv .2) (c18 .loop .inv .3) (c11 .initializer .ensures .1 .1 .0), used-after _ _ (c18 .loop .inv .3) (c11 .initializer .ensures .1 .0) (c5 .step .given .1))
+    let c18 = c17 .before in (
+      adding-goes (c18 .loop .inv .0) (c17 .next-of .ensures) (c15 .sought .given .1) _ (c11 .initializer .ensures .0) (c11 .initializer .ensures .1 .0)
+          (c11 .initializer .ensures .1 .1 .0) (c5 .step .given .1),
+      lists-next (c18 .loop .inv .1) (c17 .next-of .ensures) (c15 .sought .given .1)
+          (minded-recalled (lists-fits (c18 .loop .inv .1)) (c11 .initializer .ensures .1 .1 .1)) (c2 .list .ensures),
+      default-kept (c18 .loop .inv .2)
+          (c18 .loop .inv .3) (c11 .initializer .ensures .1 .1 .0),
+      used-after _ _ (c18 .loop .inv .3) (c11 .initializer .ensures .1 .0) (c5 .step .given .1),
+    )
 
 list-requires : tie.Need-list-requires Inv-loop μ-loop
 list-requires c κs =

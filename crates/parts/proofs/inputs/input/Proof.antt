@@ -39,8 +39,12 @@ returns-3 c =
     let c11 = c5 .before .before .before .before .before .before in
     let c15 = c11 .before .before .before .before in
     let c17 = c15 .before .before in
-    let c21 = c17 .before .before .before .before in
-    (λ k e. let there = named-there _ _ _ _ (c17 .read-name .ensures) (c15 .name .given .1) (c21 .pre .1 .0) in input-mistyped _ _ k _ _ _ (c17 .read-name .ensures) (c15 .name .given .1) there _ _ (c11 .define .ensures .0) (c5 .step .given .1) _ (c3 .main-type .ensures k e) (c1 .r2 .given .1), (tt, c11 .define .ensures .1 .1))
+    let c21 = c17 .before .before .before .before in (
+      λ k e. let there = named-there _ _ _ _ (c17 .read-name .ensures) (c15 .name .given .1) (c21 .pre .1 .0) in input-mistyped _ _ k _ _ _
+          (c17 .read-name .ensures) (c15 .name .given .1) there _ _ (c11 .define .ensures .0) (c5 .step .given .1) _ (c3 .main-type .ensures k e)
+          (c1 .r2 .given .1),
+      (tt, c11 .define .ensures .1 .1),
+    )
 
 returns-4 : tie.Need-returns-4
 unfolding stepSays
@@ -50,8 +54,12 @@ returns-4 c =
     let c10 = c4 .before .before .before .before .before .before in
     let c14 = c10 .before .before .before .before in
     let c16 = c14 .before .before in
-    let c20 = c16 .before .before .before .before in
-    (λ k e. let there = named-there _ _ _ _ (c16 .read-name .ensures) (c14 .name .given .1) (c20 .pre .1 .0) in input-goes _ _ k _ _ _ (c16 .read-name .ensures) (c14 .name .given .1) there _ _ (c10 .define .ensures .0) (c4 .step .given .1) _ (c2 .main-type .ensures k e) (c .enum-told2 .given .1), (subst (grows _) (c4 .step .given .1) (c10 .define .ensures .1 .0), c10 .define .ensures .1 .1))
+    let c20 = c16 .before .before .before .before in (
+      λ k e. let there = named-there _ _ _ _ (c16 .read-name .ensures) (c14 .name .given .1) (c20 .pre .1 .0) in input-goes _ _ k _ _ _
+          (c16 .read-name .ensures) (c14 .name .given .1) there _ _ (c10 .define .ensures .0) (c4 .step .given .1) _ (c2 .main-type .ensures k e)
+          (c .enum-told2 .given .1),
+      (subst (grows _) (c4 .step .given .1) (c10 .define .ensures .1 .0), c10 .define .ensures .1 .1),
+    )
 
 pub input-spec : {M : Type 1} → statement M
 input-spec =

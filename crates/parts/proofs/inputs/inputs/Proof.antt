@@ -17,7 +17,9 @@ use Rattle.parts.proofs.inputs.inputs.Statement.{statement}
 use Rattle.parts.proofs.inputs.inputs.Tie as tie
 
 abbrev Inv-loop : tie.InvT-loop
-Inv-loop model cells₀ extra₀ ix main c₀ q₀ cells extra c q = Adding model Graph·input (c₀ .end) (λ n. input model (fills n) (plain main)) (each (input model (fills (length cells₀)) (plain main)) (walkIn model cells₀ q₀) (allFrom model Graph·input (c₀ .end) (c₀ .at))) cells₀ q₀ cells q c × Recalled model ix cells extra₀ extra
+Inv-loop model cells₀ extra₀ ix main c₀ q₀ cells extra c q =
+    Adding model Graph·input (c₀ .end) (λ n. input model (fills n) (plain main)) (each (input model (fills (length cells₀)) (plain main)) (walkIn model
+    cells₀ q₀) (allFrom model Graph·input (c₀ .end) (c₀ .at))) cells₀ q₀ cells q c × Recalled model ix cells extra₀ extra
 
 abbrev μ-loop : tie.MeasureT-loop
 μ-loop model cells₀ extra₀ ix main c₀ q₀ cells extra c q = c₀ .end - c .at

@@ -15,7 +15,9 @@ use Rattle.parts.proofs.outputs.node_outputs.Statement.{statement}
 use Rattle.parts.proofs.outputs.node_outputs.Tie as tie
 
 abbrev Inv-loop : tie.InvT-loop
-Inv-loop model cells₀ extra₀ ix c₀ q₀ cells extra c q = Adding model Node·output (c₀ .end) (λ n. nodeOutput model (fills n)) (each (nodeOutput model (fills (length cells₀))) (walkIn model cells₀ q₀) (allFrom model Node·output (c₀ .end) (c₀ .at))) cells₀ q₀ cells q c × Recalled model ix cells extra₀ extra
+Inv-loop model cells₀ extra₀ ix c₀ q₀ cells extra c q =
+    Adding model Node·output (c₀ .end) (λ n. nodeOutput model (fills n)) (each (nodeOutput model (fills (length cells₀))) (walkIn model cells₀ q₀)
+    (allFrom model Node·output (c₀ .end) (c₀ .at))) cells₀ q₀ cells q c × Recalled model ix cells extra₀ extra
 
 abbrev μ-loop : tie.MeasureT-loop
 μ-loop model cells₀ extra₀ ix c₀ q₀ cells extra c q = c₀ .end - c .at
@@ -43,8 +45,15 @@ node-output-requires c κs =
     let c5 = c3 .before .before in
     let c6 = c5 .before in
     let c7 = c6 .before in
-    let c11 = c7 .before .before .before .before in
-    (adding-placed (c6 .loop .inv .0) (c5 .next-of .ensures) (c3 .sought .given .1) _ (c11 .pre .0) (contents-inside _ _ (c7 .contents .ensures) (c11 .pre .1 .0)), (adding-named (c6 .loop .inv .0) (c5 .next-of .ensures) (c3 .sought .given .1) (contents-inside _ _ (c7 .contents .ensures) (c11 .pre .1 .0)), (c11 .pre .0, c6 .loop .inv .1 .recalls)))
+    let c11 = c7 .before .before .before .before in (
+      adding-placed (c6 .loop .inv .0) (c5 .next-of .ensures) (c3 .sought .given .1) _ (c11 .pre .0) (contents-inside _ _ (c7 .contents .ensures)
+          (c11 .pre .1 .0)),
+      (
+        adding-named (c6 .loop .inv .0) (c5 .next-of .ensures) (c3 .sought .given .1)
+            (contents-inside _ _ (c7 .contents .ensures) (c11 .pre .1 .0)),
+        (c11 .pre .0, c6 .loop .inv .1 .recalls),
+      ),
+    )
 
 returns-2 : tie.Need-returns-2 Inv-loop μ-loop
 returns-2 c =

@@ -37,8 +37,14 @@ returns-3 c =
     let c6 = c5 .before in
     let c7 = c6 .before in
     let c8 = c7 .before in
-    let c14 = c8 .before .before .before .before .before .before in
-    (define-new _ _ _ _ _ (text-there _ _ (c14 .pre .1 .0) (c8 .text .ensures)) _ (c7 .sees .ensures) (c6 .if1 .left) _ (c .larger .ensures) (c5 .if2 .left), (omega arith, (keeps-set _ _ _, recalled-more (c14 .pre .1 .1 .1) _ (c5 .if2 .left) (c14 .args .name) (c14 .pre .1 .0) (c3 .remember .ensures))))
+    let c14 = c8 .before .before .before .before .before .before in (
+      define-new _ _ _ _ _ (text-there _ _ (c14 .pre .1 .0) (c8 .text .ensures)) _ (c7 .sees .ensures) (c6 .if1 .left) _ (c .larger .ensures)
+          (c5 .if2 .left),
+      (
+        omega arith,
+        (keeps-set _ _ _, recalled-more (c14 .pre .1 .1 .1) _ (c5 .if2 .left) (c14 .args .name) (c14 .pre .1 .0) (c3 .remember .ensures)),
+      ),
+    )
 
 pub define-spec : {M : Type 1} → statement M
 define-spec =
