@@ -8,7 +8,7 @@ use crate::given::Given;
 use crate::markdown::{count, head, megabytes, ratio, table, time, MISSING};
 use crate::memory::{self, Lent};
 use crate::onnx::Onnx;
-use crate::timing::{alone, measure, Measured, Plain, Plan, Times};
+use crate::timing::{alone, in_turn, measure, Measured, Plain, Plan, Times};
 use crate::workloads::{Workload, WORKLOADS};
 
 /// What a run needs: where files go, the C++ side if it is there and its path, how long to measure, and the seed.
@@ -51,9 +51,9 @@ const MEMORY_HEAD: [&str; 7] =
 
 const NONE: &str = "–";
 
-/// The indexed check at a quarter and at half of the size, and the time for clearing the cells of the whole.
+/// The indexed check at a quarter, at half and at the whole of the size, and the time for clearing the cells of the whole.
 struct Growth {
-    parts: Option<(Duration, Duration)>,
+    sizes: Option<[Duration; 3]>,
     clearing: Duration,
 }
 
@@ -68,11 +68,12 @@ pub fn workloads(run: &Run, word: &str) -> Result<String, String> {
     }
     for workload in chosen {
         eprintln!("{}", workload.name);
-        let (quarter, half) = parts(run, workload);
+        let quarter = workload.size.is_some().then(|| run.given(workload, 4));
+        let smaller = quarter.as_ref().map(|quarter| (quarter.plain()(), 16));
         let given = run.given(workload, 1);
-        let measured = measure(&given, quarter.map(|(plain, _)| (plain, 16)), run.onnx, run.plan);
-        let indexed = quarter.map(|(_, indexed)| indexed).zip(half);
-        let growth = Growth { parts: indexed, clearing: alone(given.clearing(), short(run.plan)).best() };
+        let measured = measure(&given, smaller, run.onnx, run.plan);
+        let sizes = quarter.map(|quarter| sizes(&quarter, &run.given(workload, 2), &given, run.plan));
+        let growth = Growth { sizes, clearing: alone(given.clearing(), short(run.plan)).best() };
         times.push(time_row(workload.name, &given, &measured));
         growths.push(growth_row(workload.name, &given, &growth, measured.indexed.best()));
         memory.push(memory_row(run, workload.name, &given, &measured)?);
@@ -94,16 +95,10 @@ fn short(plan: Plan) -> Plan {
     Plan { runs: plan.runs.min(9), budget: plan.budget / 4 }
 }
 
-/// At a quarter of the size the plain check, once, and the indexed one; at half the indexed one.
-fn parts(run: &Run, workload: &Workload) -> (Option<(Duration, Duration)>, Option<Duration>) {
-    if workload.size.is_none() {
-        return (None, None);
-    }
-    let quarter = run.given(workload, 4);
-    let plain = quarter.plain()();
-    let indexed = alone(quarter.indexed(), short(run.plan)).best();
-    let half = run.given(workload, 2);
-    (Some((plain, indexed)), Some(alone(half.indexed(), short(run.plan)).best()))
+/// The indexed check at three sizes in turn: a ratio of times from different minutes would say more of the machine.
+fn sizes(quarter: &Given, half: &Given, whole: &Given, plan: Plan) -> [Duration; 3] {
+    let plan = Plan { budget: plan.budget / 2, ..plan };
+    in_turn([quarter.indexed(), half.indexed(), whole.indexed()], plan).map(|times| times.best())
 }
 
 fn both(times: &Times) -> String {
@@ -132,13 +127,15 @@ fn time_row(name: &str, given: &Given, m: &Measured) -> Vec<String> {
 }
 
 fn growth_row(name: &str, given: &Given, growth: &Growth, whole: Duration) -> Vec<String> {
-    let parts = match growth.parts {
-        Some((quarter, half)) => [time(quarter), time(half), time(whole), ratio(half, quarter), ratio(whole, half)],
+    let sizes = match growth.sizes {
+        Some([quarter, half, whole]) => {
+            [time(quarter), time(half), time(whole), ratio(half, quarter), ratio(whole, half)]
+        }
         None => [NONE.to_string(), NONE.to_string(), time(whole), NONE.to_string(), NONE.to_string()],
     };
     let lent = format!("{} + {}", count(given.cells as u64), count(given.extra as u64));
     let mut row = vec![name.to_string()];
-    row.extend(parts);
+    row.extend(sizes);
     row.extend([time(growth.clearing), lent]);
     row
 }

@@ -101,11 +101,19 @@ impl<'a> Side<'a> {
     }
 }
 
+/// Calls in turn: round after round, each once, so that a machine that slows down for a while slows all of them.
+pub fn in_turn<'a, const N: usize>(calls: [impl FnMut() -> Duration + 'a; N], plan: Plan) -> [Times; N] {
+    let mut sides = calls.map(Side::of);
+    for _ in 0..plan.runs {
+        sides.iter_mut().for_each(|side| side.run(plan));
+    }
+    sides.map(Side::only)
+}
+
 /// One side alone.
 pub fn alone<'a>(call: impl FnMut() -> Duration + 'a, plan: Plan) -> Times {
-    let mut side = Side::of(call);
-    (0..plan.runs).for_each(|_| side.run(plan));
-    side.only()
+    let [times] = in_turn([call], plan);
+    times
 }
 
 /// Times all sides in turn: round after round, each side once. `smaller` is how long the plain check took on a smaller
