@@ -11,7 +11,7 @@ use Rattle.wire.specs.Lists.{first, keep}
 use Rattle.wire.specs.Bytes.{Bytes}
 use Rattle.wire.specs.Wire.{field, fieldsFrom, fields}
 use Rattle.wire.specs.Message.{allOf, message}
-use Rattle.wire.specs.Answers.{soughtSays, contentsOf, after, soughtIn}
+use Rattle.wire.specs.Answers.{soughtSays, contentsOf, after, foundIn, soughtIn}
 use Rattle.wire.specs.declared.Refusal.{Refusal}
 use Rattle.wire.specs.declared.Field.{Field}
 use Rattle.wire.specs.declared.Cursor.{Cursor}
@@ -77,7 +77,7 @@ module _ (s : Bytes) (number end : ℕ) where
   told (f ∷ rest) = refl
 
   told-sought : (pos : ℕ) {o : Option (Field × Cursor)} → o ≡ soughtIn s number end pos → Told (allFrom pos) o
-  unfolding allFrom soughtIn
+  unfolding allFrom soughtIn foundIn
   told-sought pos e = rw e (told (allFrom pos))
 
   pub all-none : (pos : ℕ) → none ≡ soughtIn s number end pos → allFrom pos ≡ []

@@ -10,7 +10,7 @@ use Rattle.wire.specs.Outcome.{pass, fail, _>>=_, _>>_, Judged, refused,
 use Rattle.wire.specs.Lists.{first, keep, contains}
 use Rattle.wire.specs.Bytes.{Bytes}
 use Rattle.wire.specs.Wire.{varint, badTag, tag, sized, value, field}
-use Rattle.wire.specs.Answers.{varintSays, tagSays, fieldSays, after, withCursor, soughtIn}
+use Rattle.wire.specs.Answers.{varintSays, tagSays, fieldSays, after, withCursor, foundIn, soughtIn}
 use Rattle.wire.specs.declared.Refusal.{Refusal}
 use Rattle.wire.specs.declared.Varint.{Varint}
 use Rattle.wire.specs.declared.Tag.{Tag}
@@ -130,21 +130,21 @@ module _ (s : Bytes) (c : Cursor) {r : FieldAnswer} (read : fieldSays r ≡ with
 
 module _ (s : Bytes) (number end pos : ℕ) where
   sought-done : end ≤ pos → soughtIn s number end pos ≡ none
-  unfolding soughtIn keep first
+  unfolding soughtIn foundIn keep first
   sought-done h = rw (fields-done s end pos h, soughtIn) refl
 
   module _ (h : pos < end) where
     sought-stop : (r : Refusal) → field s end pos ≡ fail r → soughtIn s number end pos ≡ none
-    unfolding soughtIn keep first
+    unfolding soughtIn foundIn keep first
     sought-stop r e = rw (fields-stop s end pos r h e, soughtIn) refl
 
     module _ (f : Field) (e : field s end pos ≡ pass f) where
       sought-here : number ≡ f .number → soughtIn s number end pos ≡ some (after end f)
-      unfolding soughtIn keep first
+      unfolding soughtIn foundIn keep first
       sought-here k = rw (fields-step s end pos f h e, soughtIn) (rw (eq-eqb number (f .number) k, keep) refl)
 
       sought-on : (number ≡ f .number → ⊥) → soughtIn s number end pos ≡ soughtIn s number end (f .next)
-      unfolding soughtIn keep first
+      unfolding soughtIn foundIn keep first
       sought-on k = rw (fields-step s end pos f h e, soughtIn) (rw (ne-eqb number (f .number) k, keep) refl)
 
 -- what is sought from `from` on is sought from the cursor on

@@ -10,7 +10,7 @@ use Rattle.wire.specs.Lists.{first, keep}
 use Rattle.wire.specs.Bytes.{Bytes}
 use Rattle.wire.specs.Wire.{field, fields}
 use Rattle.wire.specs.Message.{allOf, firstOf, numberOf, placeOf, text, bytesOf, message}
-use Rattle.wire.specs.Answers.{soughtSays, foundSays, contentsOf, after, soughtIn}
+use Rattle.wire.specs.Answers.{soughtSays, contentsOf, after, foundIn, soughtIn}
 use Rattle.wire.specs.declared.Field.{Field}
 use Rattle.wire.specs.declared.Cursor.{Cursor}
 use Rattle.wire.specs.declared.Sought.{Sought}
@@ -18,29 +18,29 @@ use Rattle.wire.specs.declared.Sought.the-variants as sought
 use Rattle.wire.proofs.CursorLaws.{says}
 use Rattle.wire.proofs.Along.{Onward, all-some}
 
-unfoldable pub without : Option (Field × Cursor) → Option Field
+-- what is left of an answer without the cursor
+without : Option (Field × Cursor) → Option Field
 without none = none
 without (some p) = some (p .0)
 
-pub same-found : (r : Sought) → foundSays r ≡ without (soughtSays r)
-unfolding foundSays soughtSays without
-same-found (sought.Found g c) = refl
-same-found sought.Missing = refl
+without-cursor : (end : ℕ) (o : Option Field) → without (foundIn end o) ≡ o
+unfolding foundIn after without
+without-cursor end none = refl
+without-cursor end (some g) = refl
 
 module _ (s : Bytes) (number : ℕ) (f : Field) where
-  pub found-first : (r : Sought) {c : Cursor} → c ≡ contentsOf f → soughtSays r ≡ soughtIn s number (c .end) (c .at) → foundSays r ≡ firstOf number (message s f)
-  unfolding soughtIn firstOf allOf message contentsOf after without
-  found-first r k e = same-found r ∙ ap without (rw k at e) ∙ other (first (keep (λ g. eqb number (g .number)) (fields s (f .next) (f .start))))
-    where
-      other : (o : Option Field) → without (elim o [ none ↦ none | some g ↦ some (after (f .next) g) ]) ≡ o
-      other none = refl
-      other (some g) = refl
+  pub found-first : (r : Sought) {c : Cursor} → c ≡ contentsOf f → soughtSays r ≡ soughtIn s number (c .end) (c .at) → soughtSays r ≡ foundIn (f .next) (firstOf number (message s f))
+  unfolding soughtIn firstOf allOf message contentsOf
+  found-first r k e = rw k at e
 
-  module _ (r : Sought) (e : foundSays r ≡ firstOf number (message s f)) where
+  module _ (r : Sought) (e : soughtSays r ≡ foundIn (f .next) (firstOf number (message s f))) where
+    told : {a : Sought} → r ≡ a → without (soughtSays a) ≡ firstOf number (message s f)
+    told k = ap without (says soughtSays e k) ∙ without-cursor _ _
+
     module _ (k : r ≡ sought.Missing) where
       pub missing : none ≡ firstOf number (message s f)
-      unfolding foundSays
-      missing = says foundSays e k
+      unfolding soughtSays without
+      missing = told k
 
       pub number-missing : 0 ≡ numberOf number (message s f)
       unfolding numberOf
@@ -56,8 +56,8 @@ module _ (s : Bytes) (number : ℕ) (f : Field) where
 
     module _ {g : Field} {c : Cursor} (k : r ≡ sought.Found g c) where
       pub found : some g ≡ firstOf number (message s f)
-      unfolding foundSays
-      found = says foundSays e k
+      unfolding soughtSays without
+      found = told k
 
       pub number-found : g .value ≡ numberOf number (message s f)
       unfolding numberOf
@@ -74,8 +74,8 @@ module _ (s : Bytes) (number : ℕ) (f : Field) where
 -- a message's first field with a number was read where it lies
 module _ (s : Bytes) (number : ℕ) (m : Field) {f : Field} (k : some f ≡ firstOf number (message s m)) where
   first-onward : Onward s number (m .next) (m .start) f (record { at = f .next; end = m .next })
-  unfolding soughtIn firstOf allOf message after
-  first-onward = all-some s number (m .next) (m .start) (ap (λ (o : Option Field). elim o [ none ↦ none | some g ↦ some (after (m .next) g) ]) k)
+  unfolding soughtIn foundIn firstOf allOf message after
+  first-onward = all-some s number (m .next) (m .start) (ap (foundIn (m .next)) k)
 
   pub first-read : field s (m .next) (f .place) ≡ pass f
   first-read = first-onward .read

@@ -12,7 +12,7 @@ use Rattle.wire.specs.Lists.{first, keep}
 use Rattle.wire.specs.Bytes.{Bytes}
 use Rattle.wire.specs.Wire.{field, fields}
 use Rattle.wire.specs.Message.{allOf, firstOf, message}
-use Rattle.wire.specs.Answers.{soughtSays, foundSays, contentsOf, fieldSays, withCursor, after, soughtIn}
+use Rattle.wire.specs.Answers.{soughtSays, contentsOf, fieldSays, withCursor, foundIn, soughtIn}
 use Rattle.wire.specs.Outline.{Starts, marked}
 use Rattle.wire.specs.declared.Refusal.{Refusal}
 use Rattle.wire.specs.declared.Field.{Field}
@@ -25,7 +25,6 @@ use Rattle.wire.proofs.Fields.{fields-done, fields-step, fields-stop}
 use Rattle.wire.proofs.Reading.{Fits, AtTag, field-tells}
 use Rattle.wire.proofs.Passing.{passed-tells}
 use Rattle.wire.proofs.CursorLaws.{answer-read, answer-refused}
-use Rattle.wire.proofs.MessageLaws.{without, same-found}
 
 -- the fields of a number from a place on
 abbrev From : (s : Bytes) (end number pos : ℕ) → List Field
@@ -162,13 +161,7 @@ module _ {s : Bytes} {a b c d e f end : ℕ} {begin here : Cursor} {o : Outline}
 
 -- ---- from where they begin
 
-pub started-first : (s : Bytes) (number : ℕ) (m : Field) {pos : ℕ} → Starts s m number pos → (r : Sought) → soughtSays r ≡ soughtIn s number (m .next) pos → foundSays r ≡ firstOf number (message s m)
-unfolding soughtIn firstOf after without
-started-first s number m {pos} k r e = same-found r ∙ ap without e ∙ other (From s (m .next) number pos) ∙ ap first (k .same)
-  where
-    other : (l : List Field) → without (elim (first l) [ none ↦ none | some g ↦ some (after (m .next) g) ]) ≡ first l
-    other l = go (first l)
-      where
-        go : (o : Option Field) → without (elim o [ none ↦ none | some g ↦ some (after (m .next) g) ]) ≡ o
-        go none = refl
-        go (some g) = refl
+pub started-first : (s : Bytes) (number : ℕ) (m : Field) {pos : ℕ} → Starts s m number pos → (r : Sought) → soughtSays r ≡ soughtIn s number (m .next) pos
+    → soughtSays r ≡ foundIn (m .next) (firstOf number (message s m))
+unfolding soughtIn firstOf
+started-first s number m k r e = e ∙ ap (λ (l : List Field). foundIn (m .next) (first l)) (k .same)

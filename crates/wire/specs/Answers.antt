@@ -35,11 +35,6 @@ unfoldable pub soughtSays : Sought → Option (Field × Cursor)
 soughtSays (sought.Found f c) = some (f, c)
 soughtSays sought.Missing = none
 
--- What was found, whatever stands after it.
-unfoldable pub foundSays : Sought → Option Field
-foundSays (sought.Found f c) = some f
-foundSays sought.Missing = none
-
 -- A cursor at the start of the message that a field holds.
 unfoldable pub contentsOf : Field → Cursor
 contentsOf f = record { at = f .start; end = f .next }
@@ -51,7 +46,10 @@ after end f = (f, record { at = f .next; end = end })
 unfoldable pub withCursor : (end : ℕ) → Judged Field → Judged (Field × Cursor)
 withCursor end o = o >>= λ f. pass (after end f)
 
+-- The same of a field that may be missing.
+unfoldable pub foundIn : (end : ℕ) → Option Field → Option (Field × Cursor)
+foundIn end o = elim o [ none ↦ none | some f ↦ some (after end f) ]
+
 -- The first field with this number among those from `pos` to `end`.
 unfoldable pub soughtIn : (model : Bytes) → (number end pos : ℕ) → Option (Field × Cursor)
-soughtIn model number end pos =
-    elim (first (keep (λ f. eqb number (f .number)) (fields model end pos))) [ none ↦ none | some f ↦ some (after end f) ]
+soughtIn model number end pos = foundIn end (first (keep (λ f. eqb number (f .number)) (fields model end pos)))

@@ -1,7 +1,7 @@
 // The message that a field holds, its fields by number. "An absent number reads as 0, absent bytes as empty."
 ghost use mathlib.Core.Path.{_≡_};
 ghost use Rattle.wire.specs.Message.{firstOf, numberOf, placeOf, bytesOf, message};
-ghost use Rattle.wire.specs.Answers.{contentsOf, foundSays};
+ghost use Rattle.wire.specs.Answers.{contentsOf, soughtSays, foundIn};
 use crate::Cursor;
 use crate::Field;
 use crate::Sought;
@@ -19,7 +19,7 @@ impl Field {
     }
 
     pub fn first_of(self, s: &[u8], number: u64) -> Sought
-        ensures { λ r. ⌜ foundSays r ≡ firstOf number (message (now (s .entry)) self) ⌝ }
+        ensures { λ r. ⌜ soughtSays r ≡ foundIn (self .next) (firstOf number (message (now (s .entry)) self)) ⌝ }
     {
         self.contents().next_of(s, number)
     }
