@@ -1,4 +1,4 @@
--- The second walk on each of its refusals, evaluated: number and place. Main graphs stand from place 6 on in `model`, and their
+-- The second walk on each of its refusals, and on two neighbours at once, evaluated: number and place. Main graphs stand from place 6 on in `model`, and their
 -- contents from 8 on.
 use Prim.Native.Nat.{ℕ}
 use Prim.Native.String.{String}
@@ -8,7 +8,7 @@ use Rattle.wire.specs.Outcome.{pass, Judged, refused}
 use Rattle.wire.specs.Bytes.{Bytes}
 use Rattle.wire.specs.Notation.{hex, ascii}
 use Rattle.operators.specs.Samples.{L}
-use Rattle.schema.specs.Numbers.{Model·ir-version, Model·graph, Model·opset-import, OperatorSetId·domain, OperatorSetId·version, Graph·node, Graph·name, Graph·initializer, Graph·input, Graph·output, Graph·sparse-initializer, Node·output, Node·name, Node·op-type, Node·attribute, Node·domain, Attribute·name, Tensor·name, ValueInfo·name, ValueInfo·type, TypeProto·tensor, TensorType·elem-type, TensorType·shape, Shape·dim, Dimension·dim-param}
+use Rattle.schema.specs.Numbers.{Model·ir-version, Model·graph, Model·opset-import, OperatorSetId·domain, OperatorSetId·version, Graph·node, Graph·name, Graph·initializer, Graph·input, Graph·output, Graph·sparse-initializer, Node·input, Node·output, Node·name, Node·op-type, Node·attribute, Node·domain, Attribute·name, Tensor·name, ValueInfo·name, ValueInfo·type, TypeProto·tensor, TensorType·elem-type, TensorType·shape, Shape·dim, Dimension·dim-param}
 use Rattle.rules.specs.Models.{held, counted, value, tensor, body, node, graph, model, Models·computes}
 use Rattle.rules.specs.Verdict.{Counts, verdict, Verdict·computes}
 
@@ -20,12 +20,19 @@ named = held Graph·name (ascii "g")
 import : String → ℕ → Bytes
 import d v = held Model·opset-import (held OperatorSetId·domain (ascii d) ++ counted OperatorSetId·version v)
 
+input : String → Bytes → Bytes
+input x type = held Graph·input (held ValueInfo·name (ascii x) ++ type)
+
 -- A main graph with an input `x` of this type, and one with a node of these fields.
 typed : Bytes → Bytes
-typed type = model (named ++ held Graph·input (held ValueInfo·name (ascii "x") ++ type))
+typed type = model (named ++ input "x" type)
 
 tensorType : Bytes → Bytes
 tensorType fields = held ValueInfo·type (held TypeProto·tensor fields)
+
+-- The dim_value -1.
+minusOne : Bytes
+minusOne = hex "08 FF FF FF FF FF FF FF FF FF 01"
 
 dim : Bytes → Bytes
 dim fields = tensorType (counted TensorType·elem-type 1 ++ held TensorType·shape (held Shape·dim fields))
@@ -39,9 +46,12 @@ op = held Node·op-type (ascii "F")
 out : Bytes
 out = held Node·output (ascii "y")
 
--- A node with one attribute of these fields after its name `a`.
+-- An attribute of these fields after its name, and a node with one.
+attribute : String → Bytes → Bytes
+attribute x fields = held Node·attribute (held Attribute·name (ascii x) ++ fields)
+
 attributed : Bytes → Bytes
-attributed fields = noded (op ++ held Node·attribute (held Attribute·name (ascii "a") ++ fields) ++ out)
+attributed fields = noded (op ++ attribute "a" fields ++ out)
 
 accepted : (nodes names : ℕ) → Judged Counts
 accepted nodes names = pass (record { nodes = nodes; names = names })
@@ -71,7 +81,7 @@ judged =
     ∷ (typed (tensorType []), 1, refused 25 18)
     ∷ (typed (tensorType (counted TensorType·elem-type 24)), 1, refused 25 20)
     ∷ (typed (tensorType (counted TensorType·elem-type 23)), 1, refused 37 18)
-    ∷ (typed (dim (hex "08 FF FF FF FF FF FF FF FF FF 01")), 1, refused 38 26)
+    ∷ (typed (dim minusOne), 1, refused 38 26)
     ∷ (typed (dim (held Dimension·dim-param [])), 1, refused 21 26)
     ∷ (typed (dim []), 1, accepted 0 1)
     -- initializers
@@ -113,8 +123,39 @@ judged =
     ∷ (model (graph "x" "" (node "" (body "do" (graph "" "t" [] "t") ∷ []) "y" ∷ node "t" [] "z" ∷ []) "y"), 9, refused 30 68)
     ∷ (model (graph "x" "x" (node "x" [] "y" ∷ []) "y"), 2, accepted 1 2)
     ∷ (model (graph "w" "" (node "w" [] "w1" ∷ node "w1" [] "y" ∷ []) "y"), 9, accepted 2 3)
+    -- the order of neighbouring rules: each model breaks both
+    ∷ (counted Model·ir-version 8, 0, refused 11 0)
+    ∷ (counted Model·ir-version 8 ++ held Model·graph named ++ hex "CA 01 00", 0, refused 12 0)
+    ∷ (counted Model·ir-version 8 ++ import "" 13 ++ import "" 22 ++ held Model·graph named, 0, refused 13 8)
+    ∷ (counted Model·ir-version 8 ++ import "" 22 ++ held Model·graph named ++ hex "CA 01 00", 0, refused 14 2)
+    ∷ (model [] ++ hex "CA 01 00", 0, refused 15 8)
+    ∷ (model (held Graph·sparse-initializer [] ++ held Graph·name []), 0, refused 20 10)
+    ∷ (model (held Graph·sparse-initializer [] ++ held Graph·name (ascii "g-1")), 0, refused 21 10)
+    ∷ (model (named ++ held Graph·input [] ++ held Graph·sparse-initializer []), 0, refused 16 13)
+    ∷ (model (held Graph·initializer [] ++ held Graph·input [] ++ named), 0, refused 22 10)
+    ∷ (model (held Graph·node [] ++ held Graph·initializer [] ++ named), 0, refused 22 10)
+    ∷ (model (held Graph·output [] ++ held Graph·node [] ++ named), 0, refused 27 10)
+    ∷ (model (graph "x x" "" [] "x"), 1, refused 23 26)
+    ∷ (typed [], 0, refused 40 13)
+    ∷ (typed (dim (held Dimension·dim-param [] ++ minusOne)), 1, refused 38 28)
+    ∷ (model (named ++ input "x" (tensorType (counted TensorType·elem-type 1)) ++ input "y" (dim minusOne)), 2, refused 37 18)
+    ∷ (model (named ++ input "x" (dim minusOne) ++ input "y" (tensorType (counted TensorType·elem-type 1))), 2, refused 38 26)
+    ∷ (model (named ++ held Graph·initializer (held Tensor·name (ascii "w"))), 0, refused 40 13)
+    ∷ (model (named ++ held Graph·output (held ValueInfo·name (ascii "q"))), 0, refused 35 13)
+    ∷ (noded (held Node·domain (ascii "d") ++ out), 1, refused 27 11)
+    ∷ (noded (held Node·domain (ascii "d") ++ op ++ held Node·name (ascii "1") ++ out), 1, refused 28 13)
+    ∷ (noded (held Node·input (ascii "q") ++ op ++ held Node·name (ascii "1") ++ out), 1, refused 21 19)
+    ∷ (noded (held Node·input (ascii "1") ++ op ++ out), 1, refused 21 13)
+    ∷ (noded (held Node·attribute [] ++ held Node·input (ascii "q") ++ op ++ out), 1, refused 30 15)
+    ∷ (noded (op ++ held Node·attribute []), 1, refused 22 16)
+    ∷ (noded (op ++ held Node·output (ascii "1")), 0, refused 21 16)
+    ∷ (noded (op ++ held Node·attribute [] ++ held Node·attribute [] ++ out), 1, refused 22 16)
+    ∷ (noded (op ++ attribute "1" (hex "A0 01 02") ++ attribute "1" (hex "A0 01 02") ++ out), 1, refused 21 18)
+    ∷ (noded (op ++ attribute "a" (hex "A0 01 02") ++ attribute "a" (hex "AA 01 01 61") ++ out), 1, refused 31 26)
+    ∷ (attributed (hex "A0 01 0F AA 01 01 61"), 1, refused 33 16)
+    ∷ (attributed (hex "32 00 A0 01 01"), 1, refused 32 16)
     ∷ []
 
 judged-hold : map (λ s. verdict (s .0) L (s .1)) judged ≡ map (λ s. s .2) judged
-unfolding judged named import typed tensorType dim noded op out attributed accepted L Models·computes Verdict·computes
+unfolding judged named import input typed tensorType minusOne dim noded op out attribute attributed accepted L Models·computes Verdict·computes
 judged-hold = refl
