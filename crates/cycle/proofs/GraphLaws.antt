@@ -42,8 +42,8 @@ use Rattle.messages.proofs.RulingLaws.{ruled-kept}
 use Rattle.parts.proofs.OpeningLaws.{grows-then, opening-stays}
 use Rattle.parts.proofs.ClosingLaws.{closing-counts}
 use Rattle.cycle.proofs.BodyLaws.{bodies-none, bodies-all}
-use Rattle.cycle.proofs.PromiseLaws.{Promised, refusing, refused-bind, staying, standing-says, standing-grows, standing-counts}
-use Rattle.cycle.proofs.PromiseLaws.{used-more, ruled-stops, ruled-goes, loop-done, loop-stops}
+use Rattle.cycle.proofs.PromiseLaws.{Promised, refusing, refused-bind, staying, standing-says, standing-grows}
+use Rattle.cycle.proofs.PromiseLaws.{standing-counts, used-more, ruled-stops, ruled-goes, loop-done, loop-stops}
 
 -- ---- a graph inside an attribute: s is the judge's answer, with the cells `last`
 

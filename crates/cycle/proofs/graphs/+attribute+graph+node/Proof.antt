@@ -19,8 +19,8 @@ use Rattle.scope.proofs.RecallLaws.{minded-none, minded-recalled, minded-then, 
 use Rattle.parts.proofs.ListsLaws.{Lists, lists-start, lists-fits, lists-found, lists-next, lists-minds}
 use Rattle.cycle.proofs.CycleLaws.{Going, enters-low, going-start, going-falls, going-enters, going-shorter, going-goes}
 use Rattle.cycle.proofs.PromiseLaws.{promised-and, stopped-counts, not-main}
-use Rattle.cycle.proofs.GraphLaws.{Nested, attribute-stops, attribute-plain, bodies-done, bodies-stop, bodies-go, node-stops, attributes-stop}
-use Rattle.cycle.proofs.GraphLaws.{attributes-done, graph-deep, graph-unopened, first-low, node-low, nodes-stop, nodes-done}
+use Rattle.cycle.proofs.GraphLaws.{Nested, attribute-stops, attribute-plain, bodies-done, bodies-stop, bodies-go, node-stops}
+use Rattle.cycle.proofs.GraphLaws.{attributes-stop, attributes-done, graph-deep, graph-unopened, first-low, node-low, nodes-stop, nodes-done}
 use borrow.Fn.Kinds.{In}
 use borrow.Fn.PlainCycle.{Measures, is, falls, and}
 use Rattle.cycle.proofs.graphs.attribute.Reads as attribute
@@ -128,9 +128,9 @@ attribute-returns-2 t c =
     let c4 = c3 .before in
     let c6 = c4 .before .before in
     let entry = c6 .before .before .before .before .before in
-    promised-and
-    (attribute-plain _ _ _ _ _ _ _ (c6 .attribute-head .ensures) (c4 .enum-told .given .1) (c3 .number-of .ensures) (c2 .carrier-of .ensures)
-    (c1 .is-body .ensures) (entry .pre .1 .0) (not-true _ (c .if1 .taken))) (minded-none (entry .pre .1 .1 .0 .recalls) (entry .pre .1 .1 .0 .fits))
+    promised-and (attribute-plain _ _ _ _ _ _ _ (c6 .attribute-head .ensures) (c4 .enum-told .given .1) (c3 .number-of .ensures)
+    (c2 .carrier-of .ensures) (c1 .is-body .ensures) (entry .pre .1 .0) (not-true _ (c .if1 .taken)))
+    (minded-none (entry .pre .1 .1 .0 .recalls) (entry .pre .1 .1 .0 .fits))
 
 attribute-loop-holds : (t : ℕ) → attribute-lts.Need-loop-holds (attribute-claims t) (attribute-at t) attribute.Post attribute-Inv-loop attribute-μ-loop
 unfolding contentsOf
