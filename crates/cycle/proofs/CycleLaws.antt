@@ -32,8 +32,8 @@ pub record Going (model : Bytes) (number end start : ℕ) (rule : Adder) (o : Ju
 pub enters-low : {model : Bytes} {p : Progress} {f : Field} → Enters model p f → p .nodes ≤ f .start
 enters-low n = let a = n .few in let b = n .tagged in omega arith
 
-pub going-start : (model : Bytes) (number : ℕ) (rule : Adder) (first : List ℕ) (p : Progress) (c : Cursor) → c .at ≤ c .end →
-    Going model number (c .end) (c .at) rule (each (rule (length first)) (walkIn model first p) (allFrom model number (c .end) (c .at))) first p first p c
+pub going-start : (model : Bytes) (number : ℕ) (rule : Adder) (first : List ℕ) (p : Progress) (c : Cursor) → c .at ≤ c .end
+    → Going model number (c .end) (c .at) rule (each (rule (length first)) (walkIn model first p) (allFrom model number (c .end) (c .at))) first p first p c
 going-start model number rule first p c h = record {
   adding = adding-start model number rule first p c (along-start model number (rule (length first)) (walkIn model first p) c);
   from = omega arith;
@@ -72,7 +72,8 @@ module _ {model : Bytes} {number end start : ℕ} {rule : Adder} {o : Judged Wal
           let a = fits .1 in let b = fits .2 in let d = fits .3 in omega arith
 
       -- r is the answer for the field, with the cells `later`
-      module _ {later : List ℕ} (r : Step) (answer : stepSays model later r ≡ rule (length cells) (walkIn model cells q) f) (more : grows q r) (kept : Keeps (q .used) cells later) where
+      module _ {later : List ℕ} (r : Step) (answer : stepSays model later r ≡ rule (length cells) (walkIn model cells q) f) (more : grows q r)
+          (kept : Keeps (q .used) cells later) where
         pub going-stops : {x : Refusal} → r ≡ step.Refused x → (stepSays model later r ≡ o) × Keeps (p .used) first later
         going-stops k = let s = adding-stops (g .adding) read e r answer more kept k in (s .0, s .1 .1)
 

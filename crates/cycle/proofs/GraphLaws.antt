@@ -42,11 +42,13 @@ use Rattle.messages.proofs.RulingLaws.{ruled-kept}
 use Rattle.parts.proofs.OpeningLaws.{grows-then, opening-stays}
 use Rattle.parts.proofs.ClosingLaws.{closing-counts}
 use Rattle.cycle.proofs.BodyLaws.{bodies-none, bodies-all}
-use Rattle.cycle.proofs.PromiseLaws.{Promised, refusing, refused-bind, staying, standing-says, standing-grows, standing-counts, used-more, ruled-stops, ruled-goes, loop-done, loop-stops}
+use Rattle.cycle.proofs.PromiseLaws.{Promised, refusing, refused-bind, staying, standing-says, standing-grows}
+use Rattle.cycle.proofs.PromiseLaws.{standing-counts, used-more, ruled-stops, ruled-goes, loop-done, loop-stops}
 
 -- ---- a graph inside an attribute: s is the judge's answer, with the cells `last`
 
-module _ (model : Bytes) (nested : GraphJudge) (cells : List ℕ) (q : Progress) (d : Field) (last : List ℕ) (s : Step) (judged : stepSays model last s ≡ nested (walkIn model cells q) d) where
+module _ (model : Bytes) (nested : GraphJudge) (cells : List ℕ) (q : Progress) (d : Field) (last : List ℕ) (s : Step)
+    (judged : stepSays model last s ≡ nested (walkIn model cells q) d) where
   Left : Judged Walk → Judged Walk
   Left o = o >>= λ v. pass (leaving (walkIn model cells q) v)
 
@@ -59,7 +61,8 @@ module _ (model : Bytes) (nested : GraphJudge) (cells : List ℕ) (q : Progress)
   body-stops k = refused-bind model last _ judged k ∙ body-by
 
   -- its names vanish: the cells in use before it are as they were
-  body-goes : {u : Progress} → s ≡ step.Went u → Keeps (q .used) cells last → {l : Progress} → l ≡ left q u → stepSays model last (step.Went l) ≡ body nested (walkIn model cells q) d
+  body-goes : {u : Progress} → s ≡ step.Went u → Keeps (q .used) cells last → {l : Progress} → l ≡ left q u
+      → stepSays model last (step.Went l) ≡ body nested (walkIn model cells q) d
   unfolding stepSays Left walkIn leaving left _>>=_
   body-goes {u} k kept e =
       ap (λ (l : Progress). pass (walkIn model last l)) e
@@ -83,7 +86,8 @@ module _ (model : Bytes) (depth : ℕ) (node : Field) (cells : List ℕ) (p : Pr
   unfolding attributeAgain
   attribute-stops = ruled-stops model (Bodies (bodiesOf (message model f))) r ruled p
 
-  module _ (k : r ≡ ruling.Kept) {kind : ℕ} (ek : kind ≡ numberOf Attribute·type (message model f)) {n : ℕ} (en : n ≡ elim (lookup kind carriers) [ none ↦ 0 | some m ↦ m ]) {b : Bool} (eb : b ≡ (eqb Attribute·g n || eqb Attribute·graphs n)) where
+  module _ (k : r ≡ ruling.Kept) {kind : ℕ} (ek : kind ≡ numberOf Attribute·type (message model f)) {n : ℕ}
+      (en : n ≡ elim (lookup kind carriers) [ none ↦ 0 | some m ↦ m ]) {b : Bool} (eb : b ≡ (eqb Attribute·g n || eqb Attribute·graphs n)) where
     by-bodies : Bodies (bodiesOf (message model f)) ≡ Attribute
     unfolding attributeAgain
     by-bodies = ruled-goes model (Bodies (bodiesOf (message model f))) r ruled k
@@ -110,13 +114,15 @@ module _ (model : Bytes) (depth : ℕ) (node : Field) (cells : List ℕ) (p : Pr
       unfolding contentsOf
       bodies-done e i = loop-done (rw o at g) read e i (attribute-all h)
 
-      module _ {d : Field} {next : Cursor} (e : a ≡ sought.Found d next) {last : List ℕ} (s : Step) (judged : stepSays model last s ≡ Nested model depth (length later) (walkIn model later q) d) (more : grows q s) (count : counted d q s) (kept : Keeps (q .used) later last) where
+      module _ {d : Field} {next : Cursor} (e : a ≡ sought.Found d next) {last : List ℕ} (s : Step)
+          (judged : stepSays model last s ≡ Nested model depth (length later) (walkIn model later q) d) (more : grows q s) (count : counted d q s)
+          (kept : Keeps (q .used) later last) where
         pub bodies-stop : {x : Refusal} → s ≡ step.Refused x → Promised model Attribute cells last p f s
         unfolding contentsOf
         bodies-stop i = loop-stops (rw o at g) read e s (body-stops model (Nested model depth (length later)) later q d last s judged i) more kept i (attribute-all h)
 
-        pub bodies-go : {u : Progress} → s ≡ step.Went u → {l : Progress} → l ≡ left q u →
-            Going model n (begin .end) (begin .at) (λ size. body (Nested model depth size)) (Bodies (allFrom model n (begin .end) (begin .at))) cells p last l next
+        pub bodies-go : {u : Progress} → s ≡ step.Went u → {l : Progress} → l ≡ left q u
+            → Going model n (begin .end) (begin .at) (λ size. body (Nested model depth size)) (Bodies (allFrom model n (begin .end) (begin .at))) cells p last l next
         unfolding grows counted left
         bodies-go {u} i {l} m =
             let used : l .used ≡ q .used = ap (λ (x : Progress). x .used) m in
@@ -127,7 +133,10 @@ module _ (model : Bytes) (depth : ℕ) (node : Field) (cells : List ℕ) (p : Pr
 -- ---- node
 
 -- it can be counted
-pub node-low : {model : Bytes} {number : ℕ} {rule : Adder} {o : Judged Walk} {first : List ℕ} {p : Progress} {cells : List ℕ} {q : Progress} {c : Cursor} {f : Field} → Going model number (f .next) (f .start) rule o first p cells q c → Enters model p f → q .nodes < 2 ^ 32
+pub node-low : {model : Bytes} {number : ℕ} {rule : Adder} {o : Judged Walk} {first : List ℕ} {p : Progress} {cells : List ℕ} {q : Progress}
+    {c : Cursor} {f : Field}
+    → Going model number (f .next) (f .start) rule o first p cells q c → Enters model p f
+    → q .nodes < 2 ^ 32
 node-low g n =
     let few = going-few g in
     let low = enters-low n in
@@ -136,7 +145,8 @@ node-low g n =
     let ends = n .ends in
     omega arith
 
-module _ (model : Bytes) (depth : ℕ) (graph : Field) (cells : List ℕ) (p : Progress) (f : Field) (r : Ruling) (ruled : rulingSays r ≡ nodeRules model graph (scopeIn model cells (p .used)) f) where
+module _ (model : Bytes) (depth : ℕ) (graph : Field) (cells : List ℕ) (p : Progress) (f : Field) (r : Ruling)
+    (ruled : rulingSays r ≡ nodeRules model graph (scopeIn model cells (p .used)) f) where
   abbrev Node : Judged Walk
   Node = nodeAgain model (fills (length cells)) (Nested model depth (length cells)) graph (walkIn model cells p) f
 
@@ -157,15 +167,21 @@ module _ (model : Bytes) (depth : ℕ) (graph : Field) (cells : List ℕ) (p : P
 
     -- the loop over the attributes
     module _ {later : List ℕ} {q : Progress} {c : Cursor}
-        (g : Going model Node·attribute (f .next) (f .start) (λ size. attributeAgain model (fills size) (Nested model depth size) f) (Attributes (allFrom model Node·attribute (f .next) (f .start))) cells p later q c)
+        (g : Going model Node·attribute (f .next) (f .start) (λ size. attributeAgain model (fills size) (Nested model depth size) f)
+        (Attributes (allFrom model Node·attribute (f .next) (f .start))) cells p later q c)
         {a : Sought} (read : soughtSays a ≡ soughtIn model Node·attribute (c .end) (c .at)) where
-      module _ {d : Field} {next : Cursor} (e : a ≡ sought.Found d next) {last : List ℕ} (s : Step) (judged : stepSays model last s ≡ attributeAgain model (fills (length later)) (Nested model depth (length later)) f (walkIn model later q) d) (more : grows q s) (kept : Keeps (q .used) later last) where
+      module _ {d : Field} {next : Cursor} (e : a ≡ sought.Found d next) {last : List ℕ} (s : Step)
+          (judged : stepSays model last s
+          ≡ attributeAgain model (fills (length later)) (Nested model depth (length later)) f (walkIn model later q) d) (more : grows q s)
+          (kept : Keeps (q .used) later last) where
         pub attributes-stop : {x : Refusal} → s ≡ step.Refused x → Promised model Node cells last p f s
         unfolding Closed
         attributes-stop i = let t = going-stops g read e s judged more kept i in refusing model p i (refused-bind model last _ (t .0) i ∙ node-by) (t .1)
 
       -- s is the answer of closing it, with the cells `last`
-      module _ (n : Enters model p f) (e : a ≡ sought.Missing) {last : List ℕ} (s : Step) (closed : stepSays model last s ≡ closing model (fills (length later)) (walkIn model later q) f) (more : grows q s) (kept : Keeps (q .used) later last) where
+      module _ (n : Enters model p f) (e : a ≡ sought.Missing) {last : List ℕ} (s : Step)
+          (closed : stepSays model last s ≡ closing model (fills (length later)) (walkIn model later q) f) (more : grows q s)
+          (kept : Keeps (q .used) later last) where
         one-more : (t : Step) → stepSays model last t ≡ closing model (fills (length later)) (walkIn model later q) f → counted f p t
         unfolding stepSays counted walkIn
         one-more (step.Went u) h =
@@ -214,7 +230,11 @@ module _ (model : Bytes) (depth : ℕ) (main : Bool) (cells : List ℕ) (p : Pro
     unfolding graphAgain graphFrom Opened Outputs
     graph-by = go depth h
       where
-        go : (d : ℕ) → (d ≡ 0 → ⊥) → (Opening >>= λ v. each (nodeAgain model (fills (length cells)) (Nested model (d - 1) (length cells)) f) v (allOf Graph·node (message model f)) >>= λ n. each (output model (context model main) (n .scope)) tt (allOf Graph·output (message model f)) >> pass n) ≡ graphAgain model (fills (length cells)) d main (walkIn model cells p) f
+        go : (d : ℕ) → (d ≡ 0 → ⊥)
+            → (Opening
+            >>= λ v. each (nodeAgain model (fills (length cells)) (Nested model (d - 1) (length cells)) f) v (allOf Graph·node (message model f))
+            >>= λ n. each (output model (context model main) (n .scope)) tt (allOf Graph·output (message model f)) >> pass n)
+            ≡ graphAgain model (fills (length cells)) d main (walkIn model cells p) f
         go zero i = absurd (i refl)
         go (suc d) i = let e : suc d - 1 ≡ d = omega arith in rw e refl
 
@@ -233,7 +253,9 @@ module _ (model : Bytes) (depth : ℕ) (main : Bool) (cells : List ℕ) (p : Pro
       nodes-by : (Nodes (length later) (walkIn model later first) (allFrom model Graph·node (f .next) (f .start)) >>= Outputs) ≡ Graph
       unfolding stepSays Opened contentsOf _>>=_
       nodes-by =
-          ap (λ (o : Judged Walk). o >>= Outputs) (ap (λ (size : ℕ). Nodes size (walkIn model later first) (allFrom model Graph·node (f .next) (f .start))) (kept .size) ∙ along-contents model Graph·node _ _ f refl)
+          ap (λ (o : Judged Walk). o >>= Outputs)
+          (ap (λ (size : ℕ). Nodes size (walkIn model later first) (allFrom model Graph·node (f .next) (f .start))) (kept .size)
+          ∙ along-contents model Graph·node _ _ f refl)
           ∙ ap (λ (o : Judged Walk). o >>= Opened) (says (stepSays model later) opened k)
           ∙ graph-by
 
@@ -243,14 +265,22 @@ module _ (model : Bytes) (depth : ℕ) (main : Bool) (cells : List ℕ) (p : Pro
 
         -- the loop over the nodes
         module _ {now : List ℕ} {q : Progress} {c : Cursor}
-            (g : Going model Graph·node (f .next) (f .start) (λ size. nodeAgain model (fills size) (Nested model (depth - 1) size) f) (Nodes (length later) (walkIn model later first) (allFrom model Graph·node (f .next) (f .start))) later first now q c)
+            (g : Going model Graph·node (f .next) (f .start) (λ size. nodeAgain model (fills size) (Nested model (depth - 1) size) f)
+            (Nodes (length later) (walkIn model later first) (allFrom model Graph·node (f .next) (f .start))) later first now q c)
             {a : Sought} (read : soughtSays a ≡ soughtIn model Graph·node (c .end) (c .at)) where
-          module _ {d : Field} {next : Cursor} (e : a ≡ sought.Found d next) {last : List ℕ} (t : Step) (judged : stepSays model last t ≡ nodeAgain model (fills (length now)) (Nested model (depth - 1) (length now)) f (walkIn model now q) d) (on : grows q t) (held : Keeps (q .used) now last) where
+          module _ {d : Field} {next : Cursor} (e : a ≡ sought.Found d next) {last : List ℕ} (t : Step)
+              (judged : stepSays model last t ≡ nodeAgain model (fills (length now)) (Nested model (depth - 1) (length now)) f (walkIn model now q) d)
+              (on : grows q t) (held : Keeps (q .used) now last) where
             pub nodes-stop : {x : Refusal} → t ≡ step.Refused x → Promised model Graph cells last p f t
-            nodes-stop i = let u = going-stops g read e t judged on held i in refusing model p i (refused-bind model last Outputs (u .0) i ∙ nodes-by) (keeps-then kept (keeps-fewer first-more (u .1)))
+            nodes-stop i =
+                let u = going-stops g read e t judged on held i in
+                refusing model p i (refused-bind model last Outputs (u .0) i ∙ nodes-by) (keeps-then kept (keeps-fewer first-more (u .1)))
 
           -- r is the ruling on the outputs
-          pub nodes-done : Enters model p f → a ≡ sought.Missing → (r : Ruling) → rulingSays r ≡ each (output model (context model main) (scopeIn model now (q .used))) tt (allOf Graph·output (message model f)) → {t : Step} → t ≡ standing q r → Promised model Graph cells now p f t
+          pub nodes-done : Enters model p f → a ≡ sought.Missing → (r : Ruling)
+              → rulingSays r ≡ each (output model (context model main) (scopeIn model now (q .used))) tt (allOf Graph·output (message model f))
+              → {t : Step} → t ≡ standing q r
+              → Promised model Graph cells now p f t
           unfolding Outputs stepSays walkIn counted _>>=_
           nodes-done n e r ruled {t} i =
               let d = going-done g read e in
@@ -259,7 +289,11 @@ module _ (model : Bytes) (depth : ℕ) (main : Bool) (cells : List ℕ) (p : Pro
               let tagged = n .tagged in
               let at-most : q .nodes + f .place ≤ p .nodes + f .next = omega arith in
               record {
-                answer = ap (stepSays model now) i ∙ standing-says model now q r ∙ ap (λ (o : Rule). o >> pass (walkIn model now q)) ruled ∙ ap (λ (o : Judged Walk). o >>= Outputs) (d .0) ∙ nodes-by;
+                answer = ap (stepSays model now) i
+                    ∙ standing-says model now q r
+                    ∙ ap (λ (o : Rule). o >> pass (walkIn model now q)) ruled
+                    ∙ ap (λ (o : Judged Walk). o >>= Outputs) (d .0)
+                    ∙ nodes-by;
                 grown = rw i (standing-grows p q r (grows-then p first (step.Went q) (subst (grows p) k more) (d .1 .0)));
                 counts = rw i (standing-counts f p q r at-most);
                 kept = keeps-then kept (keeps-fewer first-more (d .1 .1));

@@ -36,11 +36,15 @@ pub record Promised (model : Bytes) (o : Judged Walk) (cells later : List ℕ) (
   pub counts : counted f p r
   pub kept : Keeps (p .used) cells later
 
-pub promised : {model : Bytes} {o : Judged Walk} {cells later : List ℕ} {p : Progress} {f : Field} {r : Step} → Promised model o cells later p f r → (stepSays model later r ≡ o) × (grows p r × (counted f p r × Keeps (p .used) cells later))
+pub promised : {model : Bytes} {o : Judged Walk} {cells later : List ℕ} {p : Progress} {f : Field} {r : Step}
+    → Promised model o cells later p f r
+    → (stepSays model later r ≡ o) × (grows p r × (counted f p r × Keeps (p .used) cells later))
 promised a = (a .answer, (a .grown, (a .counts, a .kept)))
 
 -- with one thing more
-pub promised-and : {model : Bytes} {o : Judged Walk} {cells later : List ℕ} {p : Progress} {f : Field} {r : Step} {A : Type 0} → Promised model o cells later p f r → A → (stepSays model later r ≡ o) × (grows p r × (counted f p r × (Keeps (p .used) cells later × A)))
+pub promised-and : {model : Bytes} {o : Judged Walk} {cells later : List ℕ} {p : Progress} {f : Field} {r : Step} {A : Type 0}
+    → Promised model o cells later p f r → A
+    → (stepSays model later r ≡ o) × (grows p r × (counted f p r × (Keeps (p .used) cells later × A)))
 promised-and a x = (a .answer, (a .grown, (a .counts, (a .kept, x))))
 
 -- a nested graph is not the main one
@@ -48,7 +52,9 @@ pub not-main : {A : Type 0} → false ≡ true → A
 not-main e = absurd (subst T (sym e) tt)
 
 -- a refusal promises nothing of the counts
-pub refusing : (model : Bytes) {o : Judged Walk} {cells later : List ℕ} (p : Progress) {f : Field} {r : Step} {x : Refusal} → r ≡ step.Refused x → stepSays model later r ≡ o → Keeps (p .used) cells later → Promised model o cells later p f r
+pub refusing : (model : Bytes) {o : Judged Walk} {cells later : List ℕ} (p : Progress) {f : Field} {r : Step} {x : Refusal}
+    → r ≡ step.Refused x → stepSays model later r ≡ o → Keeps (p .used) cells later
+    → Promised model o cells later p f r
 unfolding grows counted
 refusing model p k e kept = record { answer = e; grown = rw k tt; counts = rw k tt; kept = kept }
 
@@ -58,12 +64,16 @@ stopped-counts f p (step.Went q) says = absurd (fail-no-pass _ _ (sym (says [] [
 stopped-counts f p (step.Refused x) says = tt
 
 -- and what comes after it does not matter
-pub refused-bind : (model : Bytes) (last : List ℕ) {s : Step} {o : Judged Walk} (after : Walk → Judged Walk) {x : Refusal} → stepSays model last s ≡ o → s ≡ step.Refused x → stepSays model last s ≡ (o >>= after)
+pub refused-bind : (model : Bytes) (last : List ℕ) {s : Step} {o : Judged Walk} (after : Walk → Judged Walk) {x : Refusal}
+    → stepSays model last s ≡ o → s ≡ step.Refused x
+    → stepSays model last s ≡ (o >>= after)
 unfolding stepSays _>>=_
 refused-bind model last after e k = ap (stepSays model last) k ∙ ap (λ (o : Judged Walk). o >>= after) (says (stepSays model last) e k)
 
 -- the walk stays where it is
-pub staying : (model : Bytes) {o : Judged Walk} {cells : List ℕ} (p : Progress) {f : Field} → Enters model p f → pass (walkIn model cells p) ≡ o → Promised model o cells cells p f (step.Went p)
+pub staying : (model : Bytes) {o : Judged Walk} {cells : List ℕ} (p : Progress) {f : Field}
+    → Enters model p f → pass (walkIn model cells p) ≡ o
+    → Promised model o cells cells p f (step.Went p)
 unfolding stepSays grows counted
 staying model p n e = record { answer = e; grown = omega arith; counts = (let a = n .tagged in let b = n .ends in omega arith); kept = keeps-all _ _ }
 
@@ -91,7 +101,9 @@ used-more p q h = h
 -- ---- a rule that adds no name, before the rest
 
 module _ (model : Bytes) {rule : Rule} (rest : Judged Walk) (r : Ruling) (ruled : rulingSays r ≡ rule) where
-  pub ruled-stops : {cells : List ℕ} (p : Progress) {f : Field} {x : Refusal} → r ≡ ruling.Refused x → {s : Step} → s ≡ standing p r → Promised model (rule >> rest) cells cells p f s
+  pub ruled-stops : {cells : List ℕ} (p : Progress) {f : Field} {x : Refusal}
+      → r ≡ ruling.Refused x → {s : Step} → s ≡ standing p r
+      → Promised model (rule >> rest) cells cells p f s
   unfolding standing stepSays _>>_
   ruled-stops {cells} p {f} {x} k {s} e =
       let q : s ≡ step.Refused x = e ∙ ap (standing p) k in
@@ -113,6 +125,7 @@ module _ {model : Bytes} {number : ℕ} {rule : Adder} {o : Judged Walk} {first 
       let tagged = n .tagged in
       record { answer = d .0 ∙ k; grown = d .1 .0; counts = omega arith; kept = d .1 .1 }
 
-  module _ {h : Field} {next : Cursor} (e : a ≡ sought.Found h next) {later : List ℕ} (r : Step) (answer : stepSays model later r ≡ rule (length cells) (walkIn model cells q) h) (more : grows q r) (kept : Keeps (q .used) cells later) where
+  module _ {h : Field} {next : Cursor} (e : a ≡ sought.Found h next) {later : List ℕ} (r : Step)
+      (answer : stepSays model later r ≡ rule (length cells) (walkIn model cells q) h) (more : grows q r) (kept : Keeps (q .used) cells later) where
     pub loop-stops : {x : Refusal} → r ≡ step.Refused x → {t : Judged Walk} → o ≡ t → Promised model t first later p f r
     loop-stops k l = let s = going-stops g read e r answer more kept k in refusing model p k (s .0 ∙ l) (s .1)

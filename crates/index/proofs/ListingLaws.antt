@@ -30,9 +30,12 @@ put-below : (was : ℕ → Bytes) (place : ℕ) (y : Bytes) (i : ℕ) → i < pl
 unfolding put
 put-below was place y i h = ap (λ (b : Bool). elim b [ true ↦ y | false ↦ was i ]) (ne-eqb i place (λ e. omega arith))
 
-module _ {model : Bytes} {seed top : ℕ} {y : Bytes} {before after : List ℕ} (ix : Indexed model seed (tableOf before) (known before)) (r : Remembered model seed top y before after) where
+module _ {model : Bytes} {seed top : ℕ} {y : Bytes} {before after : List ℕ} (ix : Indexed model seed (tableOf before) (known before))
+    (r : Remembered model seed top y before after) where
   remembers : Remembers model seed (put (nameOf model (tableOf before)) top y) after
-  remembers = r .memory (nameOf model (tableOf before)) (put (nameOf model (tableOf before)) top y) (record { index = ix; same = λ i h. refl }) (λ i h. put-below _ top y i h) (put-here _ top y)
+  remembers =
+      r .memory (nameOf model (tableOf before)) (put (nameOf model (tableOf before)) top y) (record { index = ix; same = λ i h. refl })
+      (λ i h. put-below _ top y i h) (put-here _ top y)
 
   older : top ≤ known after → namesIn model (tableOf after) top ≡ namesIn model (tableOf before) top
   older h = names-same model (tableOf after) (tableOf before) top (λ i l. remembers .same i (omega arith) ∙ put-below _ top y i l)
@@ -77,7 +80,8 @@ module _ {model : Bytes} {seed : ℕ} where
   -- ---- what is listed
 
   -- where nothing is listed yet
-  pub listed-begin : {top : ℕ} {cells : List ℕ} → Indexed model seed (tableOf cells) (known cells) → top ≤ known cells → (w : Bool) → Listed model seed cells (record { base = top; top = top; whole = w }) []
+  pub listed-begin : {top : ℕ} {cells : List ℕ} → Indexed model seed (tableOf cells) (known cells) → top ≤ known cells → (w : Bool)
+      → Listed model seed cells (record { base = top; top = top; whole = w }) []
   unfolding member
   listed-begin {top} {cells} ix h w = record {
     index = ix;
@@ -86,7 +90,9 @@ module _ {model : Bytes} {seed : ℕ} where
     finds = λ t x k. since-none x (namesIn model (tableOf cells) top) top (omega (arith, names-length model (tableOf cells) top));
   }
 
-  pub listed-held : {l : Listing} {names : List Bytes} {before after : List ℕ} → Held model seed (l .top) before after → Listed model seed before l names → Listed model seed after l names
+  pub listed-held : {l : Listing} {names : List Bytes} {before after : List ℕ}
+      → Held model seed (l .top) before after → Listed model seed before l names
+      → Listed model seed after l names
   listed-held {l} h d = record {
     index = h .index;
     rises = d .rises;
@@ -94,7 +100,9 @@ module _ {model : Bytes} {seed : ℕ} where
     finds = λ w x k. ap (λ (m : List Bytes). since (l .base) (seek x m)) (h .names) ∙ d .finds w x k;
   }
 
-  pub listed-as : {l : Listing} {names later : List Bytes} {cells : List ℕ} → ((x : Bytes) → isEmpty x ≡ false → member x later ≡ member x names) → Listed model seed cells l names → Listed model seed cells l later
+  pub listed-as : {l : Listing} {names later : List Bytes} {cells : List ℕ}
+      → ((x : Bytes) → isEmpty x ≡ false → member x later ≡ member x names) → Listed model seed cells l names
+      → Listed model seed cells l later
   listed-as e d = record { index = d .index; rises = d .rises; fits = d .fits; finds = λ w x k. d .finds w x k ∙ sym (e x k) }
 
 -- ---- a name more: r is the listing then

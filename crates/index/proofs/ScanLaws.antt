@@ -17,7 +17,8 @@ pub scan-start : (model : Bytes) (table : List ℕ) (below : ℕ) (name : Bytes)
 scan-start model table below name = record { inside = omega arith; rest = refl }
 
 -- one record more
-newest-first : (model : Bytes) (table : List ℕ) (name : Bytes) (i : ℕ) → 0 < i → {b : Bool} → b ≡ same name (nameOf model table (i - 1)) → elim b [ true ↦ found.At (i - 1) | false ↦ seek name (namesIn model table (i - 1)) ] ≡ seek name (namesIn model table i)
+newest-first : (model : Bytes) (table : List ℕ) (name : Bytes) (i : ℕ) → 0 < i → {b : Bool} → b ≡ same name (nameOf model table (i - 1))
+    → elim b [ true ↦ found.At (i - 1) | false ↦ seek name (namesIn model table (i - 1)) ] ≡ seek name (namesIn model table i)
 unfolding seek namesIn
 newest-first model table name zero h e = absurd (omega arith)
 newest-first model table name (suc j) h {b} e =

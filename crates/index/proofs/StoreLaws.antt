@@ -59,7 +59,9 @@ module _ (model : Bytes) (seed : ℕ) {k : ℕ} {t u : List ℕ} (s : Beneath k 
     }
       where
         inside : b < capacity (length t)
-        inside = let z : 0 < capacity (length u) = omega (arith, ap capacity (s .size)) in omega (arith, ap capacity (s .size), bucket-lt seed (capacity (length u)) (nameOf model u k) z)
+        inside =
+            let z : 0 < capacity (length u) = omega (arith, ap capacity (s .size)) in
+            omega (arith, ap capacity (s .size), bucket-lt seed (capacity (length u)) (nameOf model u k) z)
 
         headed : (x : ℕ) → x < capacity (length t) → (d : Bool) → (d ≡ true → x ≡ b) → (d ≡ false → x ≡ b → ⊥) → getD u x 0 ≡ newest (bucketIn model seed u) x (suc k)
         headed x h true y n = ap (λ (m : ℕ). getD u m 0) (y refl) ∙ head ∙ sym (newest-here (bucketIn model seed u) x k (sym e ∙ sym (y refl)))
@@ -107,7 +109,8 @@ pub stays-then : {model : Bytes} {n : ℕ} {t u v : List ℕ} → Stays model n 
 stays-then k l = record { size = l .size ∙ k .size; names = l .names ∙ k .names }
 
 -- c is the capacity, x the name of the last record, b its bucket
-module _ {model : Bytes} {seed : ℕ} {t : List ℕ} {i : ℕ} (ix : Indexed model seed t i) (h : 0 < i) {c : ℕ} (ec : c ≡ capacity (length t)) {x : Bytes} (ex : x ≡ nameOf model t (i - 1)) {b : ℕ} (eb : b ≡ bucket seed c x) where
+module _ {model : Bytes} {seed : ℕ} {t : List ℕ} {i : ℕ} (ix : Indexed model seed t i) (h : 0 < i) {c : ℕ} (ec : c ≡ capacity (length t))
+    {x : Bytes} (ex : x ≡ nameOf model t (i - 1)) {b : ℕ} (eb : b ≡ bucket seed c x) where
   pop-inside : b < capacity (length t)
   pop-inside = let l : i - 1 < c = omega (arith, ix .fits) in omega (arith, bucket-below seed l x eb)
 
@@ -138,7 +141,8 @@ module _ {model : Bytes} {seed used count : ℕ} {t u : List ℕ} {i : ℕ} (q :
   popping-size : c ≡ capacity (length u)
   popping-size = ec ∙ ap capacity (sym (q .stays .size))
 
-  pub popping-next : count < i → {x : Bytes} → x ≡ nameOf model u (i - 1) → {b : ℕ} → b ≡ bucket seed c x → Popping model seed used count t (set u b (getD u (c + 3 * (i - 1) + 2) 0)) (i - 1)
+  pub popping-next : count < i → {x : Bytes} → x ≡ nameOf model u (i - 1) → {b : ℕ} → b ≡ bucket seed c x
+      → Popping model seed used count t (set u b (getD u (c + 3 * (i - 1) + 2) 0)) (i - 1)
   popping-next h {x} ex {b} eb = record {
     above = omega arith;
     fits = omega arith;
@@ -209,7 +213,9 @@ module _ (t : List ℕ) (a start len b k : ℕ) (ea : a ≡ capacity (length t) 
 
     pub added-names : namesIn model (Added t a start len b k) (suc k) ≡ part start len model ∷ namesIn model t k
     unfolding namesIn
-    added-names = ap (λ (x : Bytes). x ∷ namesIn model (Added t a start len b k) k) added-name ∙ ap (λ (l : List Bytes). part start len model ∷ l) (names-stay model 0 added-beneath .names)
+    added-names =
+        ap (λ (x : Bytes). x ∷ namesIn model (Added t a start len b k) k) added-name
+        ∙ ap (λ (l : List Bytes). part start len model ∷ l) (names-stay model 0 added-beneath .names)
 
     pub added-stays : Stays model k t (Added t a start len b k)
     added-stays = names-stay model 0 added-beneath
@@ -224,7 +230,8 @@ module _ (t : List ℕ) (a start len b k : ℕ) (ea : a ≡ capacity (length t) 
         (ap (λ (n : ℕ). getD (Added t a start len b k) (n + 2) 0) (ap (λ (m : ℕ). m + 3 * k) l ∙ sym ea) ∙ added-link)
 
 -- c is the capacity, x the new name, b its bucket
-module _ {model : Bytes} {seed : ℕ} {t : List ℕ} {k : ℕ} (ix : Indexed model seed t k) {c : ℕ} (ec : c ≡ capacity (length t)) (room : k < c) (start len : ℕ) {x : Bytes} (ex : x ≡ part start (start + len - start) model) {b : ℕ} (eb : b ≡ bucket seed c x) where
+module _ {model : Bytes} {seed : ℕ} {t : List ℕ} {k : ℕ} (ix : Indexed model seed t k) {c : ℕ} (ec : c ≡ capacity (length t)) (room : k < c)
+    (start len : ℕ) {x : Bytes} (ex : x ≡ part start (start + len - start) model) {b : ℕ} (eb : b ≡ bucket seed c x) where
   pub push-added : pushing model seed start len k t (Added t (c + 3 * k) start len b k) pushed.Added × Stays model k t (Added t (c + 3 * k) start len b k)
   unfolding pushing
   push-added =
@@ -232,9 +239,12 @@ module _ {model : Bytes} {seed : ℕ} {t : List ℕ} {k : ℕ} (ix : Indexed mod
       let e : c + 3 * k ≡ capacity (length t) + 3 * k = ap (λ (m : ℕ). m + 3 * k) ec in
       let l : k < capacity (length t) = omega arith in
       let m : b < capacity (length t) = omega (arith, bucket-below seed room x eb) in
-      let f : b ≡ bucket seed (capacity (length t)) (part start len model) = eb ∙ ap (λ (n : ℕ). bucket seed n x) ec ∙ ap (bucket seed (capacity (length t))) (ex ∙ ap (λ (n : ℕ). part start n model) q) in
+      let f : b ≡ bucket seed (capacity (length t)) (part start len model) =
+      eb ∙ ap (λ (n : ℕ). bucket seed n x) ec ∙ ap (bucket seed (capacity (length t))) (ex ∙ ap (λ (n : ℕ). part start n model) q) in
       ((added-indexed t (c + 3 * k) start len b k e l m model seed ix f, added-names t (c + 3 * k) start len b k e l m model), added-stays t (c + 3 * k) start len b k e l m model)
 
-pub push-full : {model : Bytes} {seed : ℕ} {t : List ℕ} {k : ℕ} (ix : Indexed model seed t k) {c : ℕ} (start len : ℕ) → c ≡ capacity (length t) → c ≤ k → pushing model seed start len k t t pushed.Full × Stays model k t t
+pub push-full : {model : Bytes} {seed : ℕ} {t : List ℕ} {k : ℕ} (ix : Indexed model seed t k) {c : ℕ} (start len : ℕ)
+    → c ≡ capacity (length t) → c ≤ k
+    → pushing model seed start len k t t pushed.Full × Stays model k t t
 unfolding pushing
 push-full {model} {seed} {t} {k} ix start len ec h = ((omega (arith, ix .fits), refl), stays-all model k t)

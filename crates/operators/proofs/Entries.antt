@@ -24,8 +24,8 @@ module _ (list : Bytes) where
   entries-agree (suc n) zero pos h k = entries-end (suc n) pos (omega arith)
   entries-agree (suc n) (suc m) pos h k = go (leb (length list) pos) (entries-agree n m (after list pos) (omega arith) (omega arith))
     where
-      go : (b : Bool) → entriesFrom list n (after list pos) ≡ entriesFrom list m (after list pos) →
-          _≡_ {A = List ℕ} (elim b [ true ↦ [] | false ↦ pos ∷ entriesFrom list n (after list pos) ]) (elim b [ true ↦ [] | false ↦ pos ∷ entriesFrom list m (after list pos) ])
+      go : (b : Bool) → entriesFrom list n (after list pos) ≡ entriesFrom list m (after list pos)
+          → _≡_ {A = List ℕ} (elim b [ true ↦ [] | false ↦ pos ∷ entriesFrom list n (after list pos) ]) (elim b [ true ↦ [] | false ↦ pos ∷ entriesFrom list m (after list pos) ])
       go true e = refl
       go false e = ap (λ (l : List ℕ). pos ∷ l) e
 

@@ -50,11 +50,15 @@ says Nothing = none
 
 -- what is found stands in the list
 module _ (list d : Bytes) where
-  inside-cons : (pos e : ℕ) (more : List ℕ) (t : Bool) → pos < length list → (some e ≡ entryOf list d more → e < length list) → some e ≡ elim t [ true ↦ some pos | false ↦ entryOf list d more ] → e < length list
+  inside-cons : (pos e : ℕ) (more : List ℕ) (t : Bool) → pos < length list → (some e ≡ entryOf list d more → e < length list)
+      → some e ≡ elim t [ true ↦ some pos | false ↦ entryOf list d more ]
+      → e < length list
   inside-cons pos e more true h k q = let z : e ≡ pos = cc in omega arith
   inside-cons pos e more false h k q = k q
 
-  inside-test : (pos e : ℕ) (more : List ℕ) (t : Bool) → leb (length list) pos ≡ t → (some e ≡ entryOf list d more → e < length list) → some e ≡ entryOf list d (elim t [ true ↦ [] | false ↦ pos ∷ more ]) → e < length list
+  inside-test : (pos e : ℕ) (more : List ℕ) (t : Bool) → leb (length list) pos ≡ t → (some e ≡ entryOf list d more → e < length list)
+      → some e ≡ entryOf list d (elim t [ true ↦ [] | false ↦ pos ∷ more ])
+      → e < length list
   unfolding entryOf
   inside-test pos e more true h k q = let z : _≡_ {A = ℕ} 0 1 = cc in absurd (omega arith)
   inside-test pos e more false h k q = inside-cons pos e more (same d (domainOf list pos)) (leb-false _ _ h) k q
@@ -118,7 +122,9 @@ module _ {list : Bytes} {pos : ℕ} (q : Judging list pos) where
 module _ (list x d : Bytes) (ex : x ≡ d) (version : ℕ) where
   allows-by : (o : Option ℕ) → o ≡ entryOf list x (entriesAt list 5) → elim o [ none ↦ false | some e ↦ within (lowest list e) (highest list e) version ] ≡ allows list d version
   unfolding allows
-  allows-by o q = ap (λ (p : Option ℕ). elim p [ none ↦ false | some e ↦ within (lowest list e) (highest list e) version ]) (q ∙ ap (λ (k : Bytes). entryOf list k (entriesAt list 5)) ex)
+  allows-by o q =
+      ap (λ (p : Option ℕ). elim p [ none ↦ false | some e ↦ within (lowest list e) (highest list e) version ])
+      (q ∙ ap (λ (k : Bytes). entryOf list k (entriesAt list 5)) ex)
 
   pub allows-none : {r : Found} → says r ≡ entryOf list x (entriesAt list 5) → r ≡ Nothing → false ≡ allows list d version
   allows-none q k = allows-by none (rw k at q)

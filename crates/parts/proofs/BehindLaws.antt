@@ -25,7 +25,9 @@ pub record Behind (model : Bytes) (seed number name : ℕ) (m : Field) (lists : 
   pub split : allOf number (message model m) ≡ pre ++ allFrom model number (m .next) (c .at)
   pub listed : Listed model seed lists l (namesIn model name pre)
 
-pub behind-start : {model : Bytes} {seed : ℕ} (number name : ℕ) (m : Field) {lists : List ℕ} {l : Listing} → Listed model seed lists l [] → {c : Cursor} → c ≡ contentsOf m → Behind model seed number name m lists l c
+pub behind-start : {model : Bytes} {seed : ℕ} (number name : ℕ) (m : Field) {lists : List ℕ} {l : Listing}
+    → Listed model seed lists l [] → {c : Cursor} → c ≡ contentsOf m
+    → Behind model seed number name m lists l c
 unfolding contentsOf allOf message allFrom namesIn
 behind-start number name m d e = rw e (record { pre = []; ends = refl; split = refl; listed = d })
 
@@ -43,7 +45,10 @@ module _ {model : Bytes} {seed number name : ℕ} {m : Field} {lists : List ℕ}
 
     seen : namesIn model name (q .pre) ≡ earlierIn model number name m f
     unfolding earlierIn
-    seen = sym (ap (namesIn model name) (ap (before (f .place)) here ∙ before-split (m .start) (m .next) (q .pre) f (allFrom model number (m .next) (next .at)) (subst (Ordered (m .start) (m .next)) here (all-of-ordered model number m))))
+    seen =
+        sym (ap (namesIn model name) (ap (before (f .place)) here
+        ∙ before-split (m .start) (m .next) (q .pre) f (allFrom model number (m .next) (next .at))
+        (subst (Ordered (m .start) (m .next)) here (all-of-ordered model number m))))
 
     pub behind-found : Listed model seed lists l (earlierIn model number name m f)
     behind-found = subst (Listed model seed lists l) seen (q .listed)
@@ -54,5 +59,6 @@ module _ {model : Bytes} {seed number name : ℕ} {m : Field} {lists : List ℕ}
       pre = q .pre ++ (f ∷ []);
       ends = gone .ends;
       split = here ∙ sym (append-assoc (q .pre) (f ∷ []) (allFrom model number (m .next) (next .at)));
-      listed = x .listed (namesIn model name (q .pre)) (namesIn model name (q .pre ++ (f ∷ []))) (q .listed) (λ y k. names-last (λ g. bytesOf model name (message model g)) y (q .pre) f);
+      listed = x .listed (namesIn model name (q .pre)) (namesIn model name (q .pre ++ (f ∷ []))) (q .listed)
+          (λ y k. names-last (λ g. bytesOf model name (message model g)) y (q .pre) f);
     }

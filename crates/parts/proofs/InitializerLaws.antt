@@ -30,8 +30,11 @@ use Rattle.scope.proofs.ScopeLaws.{scope-prefix}
 -- ---- a default
 
 -- names that are added leave the inputs where they are
-pub default-kept : {model : Bytes} {main : Bool} {graph : Field} {cells later : List ℕ} {inputs : ℕ} → Defaultable model main graph cells inputs → {used : ℕ} → inputs ≤ used → Keeps used cells later → Defaultable model main graph later inputs
-default-kept {model} {main} {graph} {cells} {later} {inputs} d {used} h k = record { names = λ e x. d .names e x ∙ ap (visible x) (sym (scope-prefix model later cells used inputs h (k .below))) }
+pub default-kept : {model : Bytes} {main : Bool} {graph : Field} {cells later : List ℕ} {inputs : ℕ}
+    → Defaultable model main graph cells inputs → {used : ℕ} → inputs ≤ used → Keeps used cells later
+    → Defaultable model main graph later inputs
+default-kept {model} {main} {graph} {cells} {later} {inputs} d {used} h k =
+    record { names = λ e x. d .names e x ∙ ap (visible x) (sym (scope-prefix model later cells used inputs h (k .below))) }
 
 pub used-after : {inputs : ℕ} (q u : Progress) {r : Step} → inputs ≤ q .used → grows q r → r ≡ step.Went u → inputs ≤ u .used
 unfolding grows

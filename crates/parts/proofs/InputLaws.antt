@@ -33,12 +33,15 @@ use Rattle.messages.proofs.RulingLaws.{ruled-kept, ruled-refused}
 abbrev pub plain : Bool → Context
 plain main = record { imports = []; main = main }
 
-pub inputs-any : (model : Bytes) (full : ℕ → Bool) (main : Bool) (k : Context) → k .main ≡ main → (w : Walk) (l : List Field) → each (input model full (plain main)) w l ≡ each (input model full k) w l
+pub inputs-any : (model : Bytes) (full : ℕ → Bool) (main : Bool) (k : Context)
+    → k .main ≡ main → (w : Walk) (l : List Field)
+    → each (input model full (plain main)) w l ≡ each (input model full k) w l
 unfolding input inMain
 inputs-any model full main k e w l = ap (λ (b : Bool). each (input model full (plain b)) w l) (sym e)
 
 -- n is the answer of reading the name
-module _ (model : Bytes) (number : ℕ) (f : Field) (n : Naming) (named : namingSays model n ≡ naming model 22 number (message model f)) {g : Field} (e : n ≡ naming-answer.Named g) where
+module _ (model : Bytes) (number : ℕ) (f : Field) (n : Naming) (named : namingSays model n ≡ naming model 22 number (message model f)) {g : Field}
+    (e : n ≡ naming-answer.Named g) where
   stands : pass (nameIn model g) ≡ naming model 22 number (message model f)
   unfolding namingSays
   stands = says (namingSays model) named e

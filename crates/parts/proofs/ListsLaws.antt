@@ -28,10 +28,13 @@ pub record Lists (model : Bytes) (ix : Index) (top number name : ℕ) (m : Field
   pub behind : Behind model (ix .seed) number name m (drop (ix .split) extra) l c
   pub above : top ≤ l .top
 
-pub lists-start : {model : Bytes} {ix : Index} {top : ℕ} (number name : ℕ) (m : Field) {cells extra : List ℕ} → Recalling model ix cells extra → top ≤ known (drop (ix .split) extra) → (w : Bool) → {c : Cursor} → c ≡ contentsOf m → Lists model ix top number name m extra cells extra (record { base = top; top = top; whole = w }) c
+pub lists-start : {model : Bytes} {ix : Index} {top : ℕ} (number name : ℕ) (m : Field) {cells extra : List ℕ}
+    → Recalling model ix cells extra → top ≤ known (drop (ix .split) extra) → (w : Bool) → {c : Cursor} → c ≡ contentsOf m
+    → Lists model ix top number name m extra cells extra (record { base = top; top = top; whole = w }) c
 lists-start number name m r h w e = record { minded = minded-none r h; behind = behind-start number name m (listed-begin (r .both .lists) h w) e; above = omega arith }
 
-module _ {model : Bytes} {ix : Index} {top number name : ℕ} {m : Field} {first cells extra : List ℕ} {l : Listing} {c : Cursor} (q : Lists model ix top number name m first cells extra l c) where
+module _ {model : Bytes} {ix : Index} {top number name : ℕ} {m : Field} {first cells extra : List ℕ} {l : Listing} {c : Cursor}
+    (q : Lists model ix top number name m first cells extra l c) where
   pub lists-fits : l .top ≤ known (drop (ix .split) extra)
   lists-fits = q .behind .listed .fits
 
@@ -40,12 +43,16 @@ module _ {model : Bytes} {ix : Index} {top number name : ℕ} {m : Field} {first
     lists-found = behind-found (q .behind) read e
 
     -- what is done for the field leaves the list alone; then its name is added
-    pub lists-next : {later mid last : List ℕ} {r : Listing} → Minded model ix (l .top) later extra mid → AddedOn model ix l (bytesOf model name (message model f)) mid last r → Lists model ix top number name m first later last r next
+    pub lists-next : {later mid last : List ℕ} {r : Listing} → Minded model ix (l .top) later extra mid
+        → AddedOn model ix l (bytesOf model name (message model f)) mid last r
+        → Lists model ix top number name m first later last r next
     lists-next n x = record {
       minded = minded-then (q .minded) (minded-fewer (q .above) (minded-then n (minded-added (n .recalls) x)));
       behind = behind-next (behind-held (q .behind) (n .held)) read e (x .lists);
       above = (let a = q .above in let b = x .lists .rises in omega arith);
     }
 
-    pub lists-minds : {later mid last : List ℕ} {r : Listing} → Minds model ix top cells extra → Minded model ix (l .top) later extra mid → AddedOn model ix l (bytesOf model name (message model f)) mid last r → Minds model ix top later last
+    pub lists-minds : {later mid last : List ℕ} {r : Listing} → Minds model ix top cells extra → Minded model ix (l .top) later extra mid
+        → AddedOn model ix l (bytesOf model name (message model f)) mid last r
+        → Minds model ix top later last
     lists-minds g n x = minds-still g (minded-fewer (q .above) (minded-then n (minded-added (n .recalls) x)))

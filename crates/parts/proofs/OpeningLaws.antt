@@ -94,18 +94,23 @@ module _ (model : Bytes) (main : Bool) (cells : List ℕ) (p : Progress) (f : Fi
         (ap (stepSays model cells) stood ∙ opening-by (ruled-refused ruled k), (rw stood tt, keeps-all _ _))
 
     -- s is the answer for the inputs, with the cells `later`
-    module _ (k : r ≡ ruling.Kept) (later : List ℕ) (s : Step) (answer : (c : Context) → c .main ≡ main → stepSays model later s ≡ Inputs c) (more : grows p s) (kept : Keeps (p .used) cells later) where
+    module _ (k : r ≡ ruling.Kept) (later : List ℕ) (s : Step) (answer : (c : Context) → c .main ≡ main → stepSays model later s ≡ Inputs c)
+        (more : grows p s) (kept : Keeps (p .used) cells later) where
       opening-ruled : {t : Step} → s ≡ t → (stepSays model later t >>= Initializers (length cells)) ≡ Opened
       unfolding context _>>_
-      opening-ruled e = ap (λ (o : Judged Walk). o >>= Initializers (length cells)) (says (stepSays model later) (answer (context model main) refl) e) ∙ opening-by (ruled-kept ruled k)
+      opening-ruled e =
+          ap (λ (o : Judged Walk). o >>= Initializers (length cells)) (says (stepSays model later) (answer (context model main) refl) e)
+          ∙ opening-by (ruled-kept ruled k)
 
       pub opening-stops : {x : Refusal} → s ≡ step.Refused x → (stepSays model later s ≡ Opened) × (grows p s × Keeps (p .used) cells later)
       unfolding stepSays _>>=_
       opening-stops e = (ap (stepSays model later) e ∙ opening-ruled e, (more, kept))
 
       -- t is the answer for the initializers, with the cells `last`
-      pub opening-goes : {q : Progress} → s ≡ step.Went q → (last : List ℕ) (t : Step) → stepSays model last t ≡ Initializers (length later) (walkIn model later q) → grows q t → Keeps (q .used) later last →
-          (stepSays model last t ≡ Opened) × (grows p t × Keeps (p .used) cells last)
+      pub opening-goes : {q : Progress} → s ≡ step.Went q → (last : List ℕ) (t : Step)
+          → stepSays model last t ≡ Initializers (length later) (walkIn model later q) → grows q t
+          → Keeps (q .used) later last
+          → (stepSays model last t ≡ Opened) × (grows p t × Keeps (p .used) cells last)
       unfolding stepSays grows _>>=_
       opening-goes {q} e last t inner on held =
           let went : grows p (step.Went q) = rw e at more in
@@ -134,8 +139,11 @@ module _ (model : Bytes) (full : ℕ → Bool) where
         passed-tells (Stays n) Any (opening model full main w f) v
         (past (Stays n) (graphRules model f) _
         (tells-bind (Stays n) (Stays n) Any (each (input model full (context model main)) w (allOf Graph·input g)) _
-        (tells-each Any (Stays n) Any (input model full (context model main)) (λ u i s _. stays-input model full (context model main) n u i s) (allOf Graph·input g) (any-all (allOf Graph·input g)) w refl)
-        (λ u s. tells-each Any (Stays n) Any (initializerAgain model full main f) (λ t i s _. initializer-stays n f t i s) (allOf Graph·initializer g) (any-all (allOf Graph·initializer g)) u s)))
+        (tells-each Any (Stays n) Any (input model full (context model main)) (λ u i s _. stays-input model full (context model main) n u i s)
+        (allOf Graph·input g) (any-all (allOf Graph·input g)) w refl)
+        (λ u s.
+        tells-each Any (Stays n) Any (initializerAgain model full main f) (λ t i s _. initializer-stays n f t i s) (allOf Graph·initializer g)
+        (any-all (allOf Graph·initializer g)) u s)))
 
 -- ---- after the inputs of the main graph, their names are the scope
 
@@ -162,7 +170,11 @@ module _ (model : Bytes) (full : ℕ → Bool) (c : Context) where
       ∙ ap (λ (s : List Name). member x (Names l) || visible x s) (input-scope w f (p .0) (p .1))
       ∙ or-shift (member x (Names l)) (same x (bytesOf model ValueInfo·name (message model f))) (visible x (w .scope))
 
-pub inputs-defaultable : (model : Bytes) (cells later : List ℕ) (p : Progress) {q : Progress} (f : Field) (main : Bool) (s : Step) → ((c : Context) → c .main ≡ main → stepSays model later s ≡ each (input model (fills (length cells)) c) (walkIn model cells p) (allOf Graph·input (message model f))) → s ≡ step.Went q → (main ≡ true → p .used ≡ 0) → Defaultable model main f later (q .used)
+pub inputs-defaultable : (model : Bytes) (cells later : List ℕ) (p : Progress) {q : Progress} (f : Field) (main : Bool) (s : Step)
+    → ((c : Context) → c .main ≡ main
+    → stepSays model later s ≡ each (input model (fills (length cells)) c) (walkIn model cells p) (allOf Graph·input (message model f)))
+    → s ≡ step.Went q → (main ≡ true → p .used ≡ 0)
+    → Defaultable model main f later (q .used)
 unfolding stepSays walkIn scopeIn inputsOf visible context
 inputs-defaultable model cells later p {q} f main s answer e zero-used = record {
   names = λ m x.

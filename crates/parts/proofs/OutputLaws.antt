@@ -51,7 +51,9 @@ module _ (model : Bytes) (full : ℕ → Bool) (w : Walk) (f : Field) {x : Bytes
     output-new e k = ap (define full w) k ∙ sym (output-by (empty-some x h) ∙ when-kept 21 (f .place) _ (stands ∙ ap not e))
 
 -- an output of a graph; its rule asks of the graph only whether it is the main one
-pub outputs-any : (model : Bytes) (scope : List Name) (main : Bool) (k : Context) → k .main ≡ main → (l : List Field) → each (output model (plain main) scope) tt l ≡ each (output model k scope) tt l
+pub outputs-any : (model : Bytes) (scope : List Name) (main : Bool) (k : Context)
+    → k .main ≡ main → (l : List Field)
+    → each (output model (plain main) scope) tt l ≡ each (output model k scope) tt l
 unfolding output inMain
 outputs-any model scope main k e l = ap (λ (b : Bool). each (output model (plain b) scope) tt l) (sym e)
 

@@ -56,7 +56,8 @@ module _ {model : Bytes} {number end : ℕ} {rule : Adder} {o : Judged Walk} {fi
     adding-named k = name-again model end (f .place) f k (along-read (g .along) read e) refl
 
     -- r is the answer for the field, with the cells `later`
-    module _ {later : List ℕ} (r : Step) (answer : stepSays model later r ≡ rule (length cells) (walkIn model cells q) f) (more : grows q r) (kept : Keeps (q .used) cells later) where
+    module _ {later : List ℕ} (r : Step) (answer : stepSays model later r ≡ rule (length cells) (walkIn model cells q) f) (more : grows q r)
+        (kept : Keeps (q .used) cells later) where
       sized : stepSays model later r ≡ rule (length first) (walkIn model cells q) f
       sized = answer ∙ ap (λ (n : ℕ). rule n (walkIn model cells q) f) (g .kept .size)
 
@@ -75,6 +76,6 @@ module _ {model : Bytes} {number end : ℕ} {rule : Adder} {o : Judged Walk} {fi
         kept = still;
       }
 
-pub adding-start : (model : Bytes) (number : ℕ) (rule : Adder) {o : Judged Walk} (first : List ℕ) (p : Progress) (c : Cursor) →
-    Along model number (c .end) (rule (length first)) o (walkIn model first p) c → Adding model number (c .end) rule o first p first p c
+pub adding-start : (model : Bytes) (number : ℕ) (rule : Adder) {o : Judged Walk} (first : List ℕ) (p : Progress) (c : Cursor)
+    → Along model number (c .end) (rule (length first)) o (walkIn model first p) c → Adding model number (c .end) rule o first p first p c
 adding-start model number rule first p c a = record { along = a; grown = omega arith; kept = keeps-all _ _ }

@@ -18,7 +18,8 @@ use Rattle.wire.proofs.Reading.{Fits}
 use Rattle.wire.proofs.Fields.{fields-done, ordered-all, all-of-ordered}
 use Rattle.schema.specs.Numbers.{Model·graph, Graph·node, Graph·initializer, Graph·input, Graph·output, Node·input, Node·output, Tensor·name, ValueInfo·name}
 use Rattle.rules.specs.Names.{Name, nameOf, nameIn, inputsOf, bodiesIn}
-use Rattle.rules.specs.Runner.{Action, binds, reads, visits, unlessEmpty, initializers, nodeScript, script, Run, Ran, begin, chosen, choose, times, perform, runGraph, runTo, run}
+use Rattle.rules.specs.Runner.{Action, binds, reads, visits, unlessEmpty, initializers, nodeScript, script}
+use Rattle.rules.specs.Runner.{Run, Ran, begin, chosen, choose, times, perform, runGraph, runTo, run}
 use Rattle.rules.specs.Count.{nodesIn, nodesTo, nodeCount}
 use Rattle.rules.proofs.Scripts.{bodies-ordered}
 
@@ -34,7 +35,9 @@ Stays f (visits b) = Inside f b
 
 module _ (model : Bytes) where
   bodies-inside : (f n : Field) → Fits (f .start) (f .next) n → All (Inside f) (bodiesIn model n)
-  bodies-inside f n h = all-map (Fits (n .start) (n .next)) (Inside f) (λ b k. (omega arith, omega arith, omega arith)) (bodiesIn model n) (ordered-all (n .start) (n .next) (bodiesIn model n) (bodies-ordered model n))
+  bodies-inside f n h =
+      all-map (Fits (n .start) (n .next)) (Inside f) (λ b k. (omega arith, omega arith, omega arith)) (bodiesIn model n)
+      (ordered-all (n .start) (n .next) (bodiesIn model n) (bodies-ordered model n))
 
   nodes-inside : (f : Field) → All (Fits (f .start) (f .next)) (allOf Graph·node (message model f))
   nodes-inside f = ordered-all (f .start) (f .next) (allOf Graph·node (message model f)) (all-of-ordered model Graph·node f)
@@ -57,7 +60,11 @@ module _ (model : Bytes) where
       x : Name
       x = nameOf model Tensor·name (message model g)
 
-      go : (b : Bool) → ((w : List Bytes) → All (Stays f) (initializers model w fs)) → All (Stays f) (elim b [ true ↦ initializers model (keep (λ y. not (same (x .bytes) y)) waiting) fs | false ↦ binds x ∷ initializers model waiting fs ])
+      go : (b : Bool) → ((w : List Bytes) → All (Stays f) (initializers model w fs))
+          → All (Stays f) (elim b [
+            | true ↦ initializers model (keep (λ y. not (same (x .bytes) y)) waiting) fs
+            | false ↦ binds x ∷ initializers model waiting fs
+          ])
       go true ih = ih _
       go false ih = (tt, ih waiting)
 
@@ -65,11 +72,14 @@ module _ (model : Bytes) where
   unfolding nodeScript
   stays-node f n h =
       let m = message model n in
-      all-append (Stays f) (flatMap (λ i. unlessEmpty reads (nameIn model i)) (allOf Node·input m) ++ map visits (bodiesIn model n)) (flatMap (λ o. unlessEmpty binds (nameIn model o)) (allOf Node·output m))
+      all-append (Stays f) (flatMap (λ i. unlessEmpty reads (nameIn model i)) (allOf Node·input m) ++ map visits (bodiesIn model n))
+      (flatMap (λ o. unlessEmpty binds (nameIn model o)) (allOf Node·output m))
       (all-append (Stays f) (flatMap (λ i. unlessEmpty reads (nameIn model i)) (allOf Node·input m)) (map visits (bodiesIn model n))
-      (all-flat Any (Stays f) (λ i. unlessEmpty reads (nameIn model i)) (λ i _. stays-unless f reads (λ x. tt) (nameIn model i)) (allOf Node·input m) (any-all (allOf Node·input m)))
+      (all-flat Any (Stays f) (λ i. unlessEmpty reads (nameIn model i)) (λ i _. stays-unless f reads (λ x. tt) (nameIn model i)) (allOf Node·input m)
+      (any-all (allOf Node·input m)))
       (all-mapped (Inside f) (Stays f) visits (λ b k. k) (bodiesIn model n) (bodies-inside f n h)))
-      (all-flat Any (Stays f) (λ o. unlessEmpty binds (nameIn model o)) (λ o _. stays-unless f binds (λ x. tt) (nameIn model o)) (allOf Node·output m) (any-all (allOf Node·output m)))
+      (all-flat Any (Stays f) (λ o. unlessEmpty binds (nameIn model o)) (λ o _. stays-unless f binds (λ x. tt) (nameIn model o)) (allOf Node·output m)
+      (any-all (allOf Node·output m)))
 
   stays-script : (main : Bool) (f : Field) → All (Stays f) (script model main f)
   unfolding script
@@ -77,15 +87,19 @@ module _ (model : Bytes) where
       let g = message model f in
       let waiting = elim main as (λ _. List Bytes) [ true ↦ inputsOf model g | false ↦ [] ] in
       let named : Field → Name = λ i. nameOf model ValueInfo·name (message model i) in
-      all-append (Stays f) (map (λ i. binds (named i)) (allOf Graph·input g) ++ initializers model waiting (allOf Graph·initializer g) ++ flatMap (nodeScript model) (allOf Graph·node g)) (map (λ o. reads (named o)) (allOf Graph·output g))
-      (all-append (Stays f) (map (λ i. binds (named i)) (allOf Graph·input g) ++ initializers model waiting (allOf Graph·initializer g)) (flatMap (nodeScript model) (allOf Graph·node g))
+      all-append (Stays f) (map (λ i. binds (named i)) (allOf Graph·input g) ++ initializers model waiting (allOf Graph·initializer g)
+      ++ flatMap (nodeScript model) (allOf Graph·node g)) (map (λ o. reads (named o)) (allOf Graph·output g))
+      (all-append (Stays f) (map (λ i. binds (named i)) (allOf Graph·input g) ++ initializers model waiting (allOf Graph·initializer g))
+      (flatMap (nodeScript model) (allOf Graph·node g))
       (all-append (Stays f) (map (λ i. binds (named i)) (allOf Graph·input g)) (initializers model waiting (allOf Graph·initializer g))
       (all-mapped Any (Stays f) (λ i. binds (named i)) (λ i _. tt) (allOf Graph·input g) (any-all (allOf Graph·input g)))
       (stays-initializers f waiting (allOf Graph·initializer g)))
       (all-flat (Fits (f .start) (f .next)) (Stays f) (nodeScript model) (λ n h. stays-node f n h) (allOf Graph·node g) (nodes-inside f)))
       (all-mapped Any (Stays f) (λ o. reads (named o)) (λ o _. tt) (allOf Graph·output g) (any-all (allOf Graph·output g)))
 
-  perform-agrees : (f : Field) (K L : Run → Field → Ran) → ((b : Field) → Inside f b → (r : Run) → K r b ≡ L r b) → (r : Run) (a : Action) → Stays f a → perform K r a ≡ perform L r a
+  perform-agrees : (f : Field) (K L : Run → Field → Ran) → ((b : Field) → Inside f b → (r : Run) → K r b ≡ L r b) → (r : Run) (a : Action)
+      → Stays f a
+      → perform K r a ≡ perform L r a
   unfolding perform
   perform-agrees f K L h r (binds x) s = refl
   perform-agrees f K L h r (reads x) s = refl
@@ -118,14 +132,17 @@ module _ (model : Bytes) where
   nodes-agree (suc n) zero f h k = rw (nodes-empty f (omega arith)) refl
   nodes-agree (suc n) (suc m) f h k =
       flat-agree (Fits (f .start) (f .next)) _ _
-      (λ x i. ap (λ (l : List Field). x ∷ l) (flat-agree (Inside f) (nodesIn model n) (nodesIn model m) (λ b j. nodes-agree n m b (omega arith) (omega arith)) (bodiesIn model x) (bodies-inside f x i)))
+      (λ x i. ap (λ (l : List Field). x ∷ l) (flat-agree (Inside f) (nodesIn model n) (nodesIn model m)
+      (λ b j. nodes-agree n m b (omega arith) (omega arith)) (bodiesIn model x) (bodies-inside f x i)))
       (allOf Graph·node (message model f)) (nodes-inside f)
 
   -- ---- the whole model
 
   main-fits : If (Fits 0 (length model)) (firstOf Model·graph (message model (whole model)))
   unfolding firstOf whole
-  main-fits = all-first (Fits 0 (length model)) (allOf Model·graph (message model (whole model))) (ordered-all 0 (length model) (allOf Model·graph (message model (whole model))) (all-of-ordered model Model·graph (whole model)))
+  main-fits =
+      all-first (Fits 0 (length model)) (allOf Model·graph (message model (whole model)))
+      (ordered-all 0 (length model) (allOf Model·graph (message model (whole model))) (all-of-ordered model Model·graph (whole model)))
 
   pub run-bound : (bound : ℕ) (choices : List ℕ) → length model ≤ bound → runTo model bound choices ≡ run model choices
   unfolding run runTo

@@ -16,7 +16,8 @@ use Rattle.wire.specs.Lists.{isEmpty}
 use Rattle.wire.specs.Bytes.{Bytes}
 use Rattle.wire.specs.Message.{allOf, firstOf, text, message, whole}
 use Rattle.operators.specs.Operators.{sound}
-use Rattle.schema.specs.Numbers.{Model·graph, Graph·node, Graph·name, Graph·initializer, Graph·input, Graph·output, ValueInfo·name, Tensor·name, Node·input, Node·output, Node·op-type, Node·attribute, Attribute·name}
+use Rattle.schema.specs.Numbers.{Model·graph, Graph·node, Graph·name, Graph·initializer, Graph·input, Graph·output, ValueInfo·name}
+use Rattle.schema.specs.Numbers.{Tensor·name, Node·input, Node·output, Node·op-type, Node·attribute, Attribute·name}
 use Rattle.schema.specs.FirstWalk.{firstWalk}
 use Rattle.rules.specs.Names.{Name, nameIn, bodiesOf, inputsOf}
 use Rattle.rules.specs.Walk.{Context, nestedIn, inMain, Walk, start, withName, withNode, leaving, Along, along, visible, naming, define}
@@ -82,7 +83,9 @@ module _ (cells : ℕ) where
   same-seq k lo (pass a) f g h = h
   same-seq k lo (fail r) f g h = λ l. (r, refl)
 
-  held-each : {A S : Type 0} (m : S → ℕ) (step move : S → A → Judged S) → ((s : S) (a : A) → Held m (m s) (step s a) (move s a)) → (s : S) (list : List A) → Held m (m s) (each step s list) (each move s list)
+  held-each : {A S : Type 0} (m : S → ℕ) (step move : S → A → Judged S) → ((s : S) (a : A) → Held m (m s) (step s a) (move s a))
+      → (s : S) (list : List A)
+      → Held m (m s) (each step s list) (each move s list)
   unfolding each
   held-each m step move one s [] = held-pass m s
   held-each m step move one s (a ∷ more) = held-bind m m (m s) (step s a) (move s a) _ _ (one s a) (λ t. held-each m step move one t more)
@@ -101,8 +104,8 @@ module _ (cells : ℕ) where
   unfolding define withName fills _>>_ refuse_at:_when:_
   held-define w x = go (visible (x .bytes) (w .scope)) (leb cells (length (w .scope))) (leb→le cells (length (w .scope))) (nleb→lt cells (length (w .scope)))
     where
-      go : (a b : Bool) → (T b → cells ≤ length (w .scope)) → (T (not b) → length (w .scope) < cells) →
-          Held most (most w)
+      go : (a b : Bool) → (T b → cells ≤ length (w .scope)) → (T (not b) → length (w .scope) < cells)
+          → Held most (most w)
           (refuse 23 at: x .place when: a >> (refuse 40 at: x .place when: b >> pass (withName w x)))
           (refuse 23 at: x .place when: a >> (refuse 40 at: x .place when: false >> pass (withName w x)))
       go true b yes′ no′ = λ l. (record { number = 23; place = x .place }, refl)
@@ -131,7 +134,9 @@ module _ (cells : ℕ) where
       unfolding defaultOrNew
       held-default inputs w x = go (isDefault c inputs (w .earlier) (x .bytes))
         where
-          go : (b : Bool) → Held most (mostOf w) (elim b [ true ↦ pass (w .walk) | false ↦ define limit (w .walk) x ]) (elim b [ true ↦ pass (w .walk) | false ↦ define free (w .walk) x ])
+          go : (b : Bool)
+              → Held most (mostOf w) (elim b [ true ↦ pass (w .walk) | false ↦ define limit (w .walk) x ])
+              (elim b [ true ↦ pass (w .walk) | false ↦ define free (w .walk) x ])
           go true = held-pass most (w .walk)
           go false = held-define (w .walk) x
 
@@ -149,7 +154,8 @@ module _ (cells : ℕ) where
         held-attribute : (w : Along) (f : Field) → Held mostOf (mostOf w) (attribute model J w f) (attribute model K w f)
         unfolding attribute
         held-attribute w f = skip mostOf (mostOf w) (naming model 22 Attribute·name (message model f)) _ _ (λ x.
-            same-seq mostOf (mostOf w) (refuse 31 at: _ when: _) _ _ (same-seq mostOf (mostOf w) (refuse 33 at: _ when: _) _ _ (same-seq mostOf (mostOf w) (refuse 32 at: _ when: _) _ _
+            same-seq mostOf (mostOf w) (refuse 31 at: _ when: _) _ _
+            (same-seq mostOf (mostOf w) (refuse 33 at: _ when: _) _ _ (same-seq mostOf (mostOf w) (refuse 32 at: _ when: _) _ _
             (held-bind most mostOf (mostOf w) (each (body J) (w .walk) (bodiesOf (message model f))) (each (body K) (w .walk) (bodiesOf (message model f))) _ _
             (held-each most (body J) (body K) held-body (w .walk) (bodiesOf (message model f)))
             (λ v. held-pass mostOf (record { walk = v; earlier = x .bytes ∷ w .earlier }))))))
@@ -162,7 +168,8 @@ module _ (cells : ℕ) where
             same-seq mostOf (mostOf w) (refuse 28 at: _ when: _) _ _
             (skip mostOf (mostOf w) (nodeName model (w .earlier) m) _ _ (λ names.
             same-seq mostOf (mostOf w) (each (nodeInput model (w .walk .scope)) tt (allOf Node·input m)) _ _
-            (held-bind mostOf mostOf (mostOf w) (each (attribute model J) (along (w .walk)) (allOf Node·attribute m)) (each (attribute model K) (along (w .walk)) (allOf Node·attribute m)) _ _
+            (held-bind mostOf mostOf (mostOf w) (each (attribute model J) (along (w .walk)) (allOf Node·attribute m))
+            (each (attribute model K) (along (w .walk)) (allOf Node·attribute m)) _ _
             (held-each mostOf (attribute model J) (attribute model K) held-attribute (along (w .walk)) (allOf Node·attribute m))
             (λ v. same-seq mostOf (mostOf v) (refuse 34 at: _ when: _) _ _
             (held-bind most mostOf (mostOf v) (each (nodeOutput model limit) (v .walk) (allOf Node·output m)) (each (nodeOutput model free) (v .walk) (allOf Node·output m)) _ _
@@ -177,9 +184,12 @@ module _ (cells : ℕ) where
             same-seq most (most w) (refuse 16 at: _ when: _) _ _
             (held-bind most most (most w) (each (input model limit c) w (allOf Graph·input g)) (each (input model free c) w (allOf Graph·input g)) _ _
             (held-each most (input model limit c) (input model free c) held-input w (allOf Graph·input g))
-            (λ v. held-bind mostOf most (most v) (each (initializer model limit c (inputsOf model g)) (along v) (allOf Graph·initializer g)) (each (initializer model free c (inputsOf model g)) (along v) (allOf Graph·initializer g)) _ _
-            (held-each mostOf (initializer model limit c (inputsOf model g)) (initializer model free c (inputsOf model g)) (held-initializer (inputsOf model g)) (along v) (allOf Graph·initializer g))
-            (λ i. held-bind mostOf most (mostOf i) (each (node model limit c J) (along (i .walk)) (allOf Graph·node g)) (each (node model free c K) (along (i .walk)) (allOf Graph·node g)) _ _
+            (λ v. held-bind mostOf most (most v) (each (initializer model limit c (inputsOf model g)) (along v) (allOf Graph·initializer g))
+            (each (initializer model free c (inputsOf model g)) (along v) (allOf Graph·initializer g)) _ _
+            (held-each mostOf (initializer model limit c (inputsOf model g)) (initializer model free c (inputsOf model g))
+            (held-initializer (inputsOf model g)) (along v) (allOf Graph·initializer g))
+            (λ i. held-bind mostOf most (mostOf i) (each (node model limit c J) (along (i .walk)) (allOf Graph·node g))
+            (each (node model free c K) (along (i .walk)) (allOf Graph·node g)) _ _
             (held-each mostOf (node model limit c J) (node model free c K) held-node (along (i .walk)) (allOf Graph·node g))
             (λ n. same-seq most (mostOf n) (each (output model c (n .walk .scope)) tt (allOf Graph·output g)) (pass (n .walk)) (pass (n .walk)) (held-pass most (n .walk)))))))
 
@@ -190,7 +200,9 @@ module _ (cells : ℕ) where
 
     held-second : (list : Bytes) → Held most 0 (secondWalk model list limit) (secondWalk model list free)
     unfolding secondWalk secondWalkTo start
-    held-second list = skip most 0 (header model list (message model (whole model))) _ _ (λ imports. go (record { imports = imports; main = true }) (firstOf Model·graph (message model (whole model))))
+    held-second list =
+        skip most 0 (header model list (message model (whole model))) _ _
+        (λ imports. go (record { imports = imports; main = true }) (firstOf Model·graph (message model (whole model))))
       where
         go : (c : Context) (o : Option Field) → Held most 0
             (elim o [ none ↦ refused 11 (message model (whole model) .place) | some g ↦ graph model limit 8 c start g ])
@@ -242,7 +254,8 @@ module _ (model list : Bytes) (cells : ℕ) (c : Counts) where
   accepted a =
       let w = a .rules-kept in
       let room : w .0 .most ≤ cells = subst⁻¹ (λ (k : Counts). k .names ≤ cells) (w .2) (a .names-fit) in
-      let second : secondWalk model list (fills cells) ≡ pass (w .0) = passes cells (secondWalk model list (fills cells)) (w .0) (rw (w .1) at (held-second cells model list)) room in
+      let second : secondWalk model list (fills cells) ≡ pass (w .0) =
+      passes cells (secondWalk model list (fills cells)) (w .0) (rw (w .1) at (held-second cells model list)) room in
       let size : ltb LARGEST (length model) ≡ false = T-false (ltb LARGEST (length model)) (no-leb {a = suc LARGEST} {b = length model} (let h = a .size-kept in omega arith)) in
       rw (size, a .list-sound, a .wire-kept, second, verdict) (ap pass (w .2))
 

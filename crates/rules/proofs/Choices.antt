@@ -12,7 +12,8 @@ use Rattle.wire.specs.Bytes.{Bytes}
 use Rattle.wire.specs.Message.{firstOf, message, whole}
 use Rattle.schema.specs.Numbers.{Model·graph}
 use Rattle.rules.specs.Names.{Name}
-use Rattle.rules.specs.Runner.{Action, binds, reads, visits, script, Read, Run, Ran, begin, find, withBound, withRead, bind, read, chosen, unchosen, choose, forget, times, perform, runGraph, runTo, run}
+use Rattle.rules.specs.Runner.{Action, binds, reads, visits, script, Read, Run, Ran, begin, find, withBound, withRead}
+use Rattle.rules.specs.Runner.{bind, read, chosen, unchosen, choose, forget, times, perform, runGraph, runTo, run}
 use Rattle.rules.proofs.Visits.{visit-once}
 
 abbrev pub Sub : List Read → List Read → Type 0
@@ -34,12 +35,16 @@ follows-from t₀ t s₀ s (pass e₀) o sub up m =
     (m .0, m .1, m .2, (λ x h. m .3 x (sub x h)), λ U a b. m .4 U a (up U (λ x h. a x (m .3 x h)) b))
 follows-from t₀ t s₀ s (fail e) o sub up m = tt
 
-follows-bind : (t₀ t : List Read) (o₀ o : Ran) (g₀ g : Run → Ran) → Follows t₀ t o₀ o → ((s₀ s : Run) → Beside s₀ s → Follows (s₀ .trace) (s .trace) (g₀ s₀) (g s)) → Follows t₀ t (o₀ >>= g₀) (o >>= g)
+follows-bind : (t₀ t : List Read) (o₀ o : Ran) (g₀ g : Run → Ran) → Follows t₀ t o₀ o
+    → ((s₀ s : Run) → Beside s₀ s → Follows (s₀ .trace) (s .trace) (g₀ s₀) (g s))
+    → Follows t₀ t (o₀ >>= g₀) (o >>= g)
 unfolding _>>=_
 follows-bind t₀ t (pass s₀) o g₀ g m k = rw (m .1) (follows-from t₀ t (s₀ .trace) (m .0 .trace) (g₀ s₀) (g (m .0)) (m .3) (m .4) (k s₀ (m .0) (m .2)))
 follows-bind t₀ t (fail e) o g₀ g m k = tt
 
-follows-each : {A : Type 0} (move₀ move : Run → A → Ran) → ((r₀ r : Run) (a : A) → Beside r₀ r → Follows (r₀ .trace) (r .trace) (move₀ r₀ a) (move r a)) → (as′ : List A) (r₀ r : Run) → Beside r₀ r → Follows (r₀ .trace) (r .trace) (each move₀ r₀ as′) (each move r as′)
+follows-each : {A : Type 0} (move₀ move : Run → A → Ran)
+    → ((r₀ r : Run) (a : A) → Beside r₀ r → Follows (r₀ .trace) (r .trace) (move₀ r₀ a) (move r a)) → (as′ : List A) (r₀ r : Run) → Beside r₀ r
+    → Follows (r₀ .trace) (r .trace) (each move₀ r₀ as′) (each move r as′)
 unfolding each
 follows-each move₀ move one [] r₀ r h = (r, refl, h, (λ x m. m), λ U a b. b)
 follows-each move₀ move one (a ∷ more) r₀ r h =
@@ -63,13 +68,22 @@ follows-read r₀ r x h = go (find (x .bytes) (r₀ .bound)) refl (rw (h .1) ref
   where
     go : (o : Option ℕ) → find (x .bytes) (r₀ .bound) ≡ o → find (x .bytes) (r .bound) ≡ o → Follows (r₀ .trace) (r .trace) (read r₀ x) (read r x)
     go none e e′ = rw (e, read) tt
-    go (some p) e e′ = rw (e, e′, read) (withRead r (x .place) p, refl, h, (λ y m. List·Memᴰ·tail m), λ U a b. sub-cons (record { field = x .place; found = p }) (r₀ .trace) (r .trace) U a b)
+    go (some p) e e′ =
+        rw (e, e′, read) (
+          withRead r (x .place) p,
+          refl,
+          h,
+          (λ y m. List·Memᴰ·tail m),
+          λ U a b. sub-cons (record { field = x .place; found = p }) (r₀ .trace) (r .trace) U a b,
+        )
 
 -- ---- one level: `K` runs the graphs further in
 
 module _ (K : Run → Field → Ran) (nest : (r₀ r : Run) (f : Field) → Beside r₀ r → Follows (r₀ .trace) (r .trace) (K r₀ f) (K r f)) where
   -- a body that the run with no choices passes, any number of times
-  follows-times : (f : Field) (r₀ s₀ : Run) → ((r : Run) → Beside r₀ r → Follows (r₀ .trace) (r .trace) (pass s₀) (K r f)) → (count : ℕ) (r : Run) → Beside r₀ r → Follows (r₀ .trace) (r .trace) (pass (forget r₀ s₀)) (times count (λ s. K s f) r)
+  follows-times : (f : Field) (r₀ s₀ : Run) → ((r : Run) → Beside r₀ r → Follows (r₀ .trace) (r .trace) (pass s₀) (K r f)) → (count : ℕ) (r : Run)
+      → Beside r₀ r
+      → Follows (r₀ .trace) (r .trace) (pass (forget r₀ s₀)) (times count (λ s. K s f) r)
   unfolding times forget _>>=_
   follows-times f r₀ s₀ once zero r h = (r, refl, (once r h .2 .0, h .1), once r h .3, λ U a b. b)
   follows-times f r₀ s₀ once (suc count) r h =
@@ -84,7 +98,8 @@ module _ (K : Run → Field → Ran) (nest : (r₀ r : Run) (f : Field) → Besi
       start : Run
       start = choose r₀
 
-      go : (o₀ : Ran) → ((s : Run) → Beside start s → Follows (r₀ .trace) (s .trace) o₀ (K s f)) → Follows (r₀ .trace) (r .trace) (o₀ >>= λ s. pass (forget start s)) (perform K r (visits f))
+      go : (o₀ : Ran) → ((s : Run) → Beside start s → Follows (r₀ .trace) (s .trace) o₀ (K s f))
+          → Follows (r₀ .trace) (r .trace) (o₀ >>= λ s. pass (forget start s)) (perform K r (visits f))
       go (pass s₀) k = follows-times f start s₀ k (chosen (r .choices)) (choose r) (ap unchosen (h .0), h .1)
       go (fail e) k = tt
 

@@ -14,7 +14,8 @@ use Rattle.wire.specs.Bytes.{Bytes}
 use Rattle.wire.specs.Message.{allOf, firstOf, text, message, whole}
 use Rattle.wire.proofs.Lists.{flat-flat}
 use Rattle.wire.proofs.Tells.{Tells, Any, any-all, anything, tells-bind, tells-weaken, tells-seq, tells-if, tells-each}
-use Rattle.schema.specs.Numbers.{Model·graph, Graph·node, Graph·name, Graph·initializer, Graph·input, Graph·output, ValueInfo·name, Tensor·name, Node·input, Node·output, Node·op-type, Node·attribute, Attribute·name}
+use Rattle.schema.specs.Numbers.{Model·graph, Graph·node, Graph·name, Graph·initializer, Graph·input, Graph·output, ValueInfo·name}
+use Rattle.schema.specs.Numbers.{Tensor·name, Node·input, Node·output, Node·op-type, Node·attribute, Attribute·name}
 use Rattle.rules.specs.Names.{Name, nameIn, bodiesOf, inputsOf, bodiesIn}
 use Rattle.rules.specs.Walk.{Context, nestedIn, inMain, Walk, GraphJudge, start, withName, withNode, leaving, Along, along, naming, define}
 use Rattle.rules.specs.Types.{declaredType}
@@ -40,7 +41,8 @@ module _ {A S : Type 0} (n : S → ℕ) (k : A → List Field) (step : S → A �
   unfolding each flatMap
   grows-each [] s = omega arith
   grows-each (a ∷ more) s = tells-bind (Grows n s (k a)) (Grows n s (k a ++ flatMap k more)) Any (step s a) _ (one s a) (λ t e.
-      tells-weaken (Grows n t (flatMap k more)) (Grows n s (k a ++ flatMap k more)) Any Any (each step t more) (λ u q. let l = length-append (k a) (flatMap k more) in omega arith) (λ r _. tt) (grows-each more t))
+      tells-weaken (Grows n t (flatMap k more)) (Grows n s (k a ++ flatMap k more)) Any Any (each step t more)
+      (λ u q. let l = length-append (k a) (flatMap k more) in omega arith) (λ r _. tt) (grows-each more t))
 
 -- and stay as they are
 abbrev pub Stays : ℕ → Walk → Type 0
@@ -71,7 +73,8 @@ module _ (model : Bytes) (full : ℕ → Bool) where
     stays-initializer : (n : ℕ) (inputs : List Bytes) (w : Along) (f : Field) → Stays n (w .walk) → Tells (λ v. Stays n (v .walk)) Any (initializer model full c inputs w f)
     unfolding initializer
     stays-initializer n inputs w f e = after (λ v. Stays n (v .walk)) (naming model 22 Tensor·name (message model f)) _ (λ x.
-        tells-bind (Stays n) (λ v. Stays n (v .walk)) Any (defaultOrNew full c inputs w x) _ (stays-default n inputs w x e) (λ v q. past (λ v. Stays n (v .walk)) (refuse 26 at: _ when: _) _ q))
+        tells-bind (Stays n) (λ v. Stays n (v .walk)) Any (defaultOrNew full c inputs w x) _ (stays-default n inputs w x e)
+        (λ v q. past (λ v. Stays n (v .walk)) (refuse 26 at: _ when: _) _ q))
 
     -- ---- one level: `J` counts the graphs further in as `k` lists their nodes
 
@@ -95,7 +98,8 @@ module _ (model : Bytes) (full : ℕ → Bool) where
           let m = message model f in
           let R : Along → Type 0 = Grows nodesOf w (f ∷ flatMap k (bodiesIn model f)) in
           let inner : List Field = flatMap (λ a. flatMap k (bodiesOf (message model a))) (allOf Node·attribute m) in
-          let q : length (flatMap k (bodiesIn model f)) ≡ length inner = ap (λ (l : List Field). length l) (flat-flat k (λ a. bodiesOf (message model a)) (allOf Node·attribute m)) in
+          let q : length (flatMap k (bodiesIn model f)) ≡ length inner =
+          ap (λ (l : List Field). length l) (flat-flat k (λ a. bodiesOf (message model a)) (allOf Node·attribute m)) in
           after R (naming model 27 Node·op-type m) _ (λ x.
           past R (refuse 28 at: _ when: _) _
           (after R (nodeName model (w .earlier) m) _ (λ names.
@@ -104,10 +108,13 @@ module _ (model : Bytes) (full : ℕ → Bool) where
           (grows-each nodesOf (λ a. flatMap k (bodiesOf (message model a))) (attribute model J) grows-attribute (allOf Node·attribute m) (along (w .walk)))
           (λ a e. past R (refuse 34 at: _ when: _) _
           (tells-bind (Stays (nodesOf a)) R Any (each (nodeOutput model full) (a .walk) (allOf Node·output m)) _
-          (tells-each Any (Stays (nodesOf a)) Any (nodeOutput model full) (λ v o s _. stays-output (nodesOf a) v o s) (allOf Node·output m) (any-all (allOf Node·output m)) (a .walk) refl)
+          (tells-each Any (Stays (nodesOf a)) Any (nodeOutput model full) (λ v o s _. stays-output (nodesOf a) v o s) (allOf Node·output m)
+          (any-all (allOf Node·output m)) (a .walk) refl)
           (λ v s. omega arith)))))))
 
-      grows-graph : (w : Walk) (f : Field) → Tells (Grows (λ (w : Walk). w .nodes) w (flatMap (λ n. n ∷ flatMap k (bodiesIn model n)) (allOf Graph·node (message model f)))) Any (graphWith model full c J w f)
+      grows-graph : (w : Walk) (f : Field)
+          → Tells (Grows (λ (w : Walk). w .nodes) w (flatMap (λ n. n ∷ flatMap k (bodiesIn model n)) (allOf Graph·node (message model f)))) Any
+          (graphWith model full c J w f)
       unfolding graphWith along
       grows-graph w f =
           let g = message model f in
@@ -118,13 +125,16 @@ module _ (model : Bytes) (full : ℕ → Bool) where
           (tells-bind (Stays (w .nodes)) R Any (each (input model full c) w (allOf Graph·input g)) _
           (tells-each Any (Stays (w .nodes)) Any (input model full c) (λ v i s _. stays-input (w .nodes) v i s) (allOf Graph·input g) (any-all (allOf Graph·input g)) w refl)
           (λ v s. tells-bind (λ i. Stays (w .nodes) (i .walk)) R Any (each (initializer model full c (inputsOf model g)) (along v) (allOf Graph·initializer g)) _
-          (tells-each Any (λ i. Stays (w .nodes) (i .walk)) Any (initializer model full c (inputsOf model g)) (λ i t s _. stays-initializer (w .nodes) (inputsOf model g) i t s) (allOf Graph·initializer g) (any-all (allOf Graph·initializer g)) (along v) s)
+          (tells-each Any (λ i. Stays (w .nodes) (i .walk)) Any (initializer model full c (inputsOf model g))
+          (λ i t s _. stays-initializer (w .nodes) (inputsOf model g) i t s) (allOf Graph·initializer g) (any-all (allOf Graph·initializer g))
+          (along v) s)
           (λ i s. tells-bind (Grows nodesOf (along (i .walk)) l) R Any (each (node model full c J) (along (i .walk)) (allOf Graph·node g)) _
           (grows-each nodesOf (λ n. n ∷ flatMap k (bodiesIn model n)) (node model full c J) grows-node (allOf Graph·node g) (along (i .walk)))
           (λ n e. past R (each (output model c (n .walk .scope)) tt (allOf Graph·output g)) (pass (n .walk)) (omega arith))))))
 
 -- the plain count has as many depths as the judge, or more
-pub grows-depths : (model : Bytes) (full : ℕ → Bool) (left more : ℕ) (c : Context) (w : Walk) (f : Field) → Tells (Grows (λ (w : Walk). w .nodes) w (nodesIn model (more + left) f)) Any (graph model full left c w f)
+pub grows-depths : (model : Bytes) (full : ℕ → Bool) (left more : ℕ) (c : Context) (w : Walk) (f : Field)
+    → Tells (Grows (λ (w : Walk). w .nodes) w (nodesIn model (more + left) f)) Any (graph model full left c w f)
 unfolding graph nodesIn
 grows-depths model full zero more c w f = tt
 grows-depths model full (suc left) more c w f = rw add-suc
@@ -135,7 +145,8 @@ grows-depths model full (suc left) more c w f = rw add-suc
 pub second-counts : (model list : Bytes) (full : ℕ → Bool) → Tells (λ w. w .nodes ≡ nodeCount model) Any (secondWalk model list full)
 unfolding secondWalk secondWalkTo nodesTo start
 second-counts model list full = rw (← (nodes-bound model (length model + 8) (omega arith)))
-    (after (λ w. w .nodes ≡ nodesTo model (length model + 8)) (header model list (message model (whole model))) _ (λ imports. go (record { imports = imports; main = true }) (firstOf Model·graph (message model (whole model)))))
+    (after (λ w. w .nodes ≡ nodesTo model (length model + 8)) (header model list (message model (whole model))) _
+    (λ imports. go (record { imports = imports; main = true }) (firstOf Model·graph (message model (whole model)))))
   where
     count : Option Field → ℕ
     count o = elim o [ none ↦ 0 | some g ↦ length (nodesIn model (length model + 8) g) ]
@@ -145,4 +156,6 @@ second-counts model list full = rw (← (nodes-bound model (length model + 8) (o
 
     go : (c : Context) (o : Option Field) → Tells (λ w. w .nodes ≡ count o) Any (walked c o)
     go c none = tt
-    go c (some g) = tells-weaken (Grows (λ (w : Walk). w .nodes) start (nodesIn model (length model + 8) g)) (λ w. w .nodes ≡ count (some g)) Any Any (graph model full 8 c start g) (λ w e. omega arith) (λ r _. tt) (grows-depths model full 8 (length model) c start g)
+    go c (some g) =
+        tells-weaken (Grows (λ (w : Walk). w .nodes) start (nodesIn model (length model + 8) g)) (λ w. w .nodes ≡ count (some g)) Any Any
+        (graph model full 8 c start g) (λ w e. omega arith) (λ r _. tt) (grows-depths model full 8 (length model) c start g)

@@ -38,8 +38,8 @@ member-without x y (z ∷ l) = go (same x z) (same y z) refl refl (member-withou
     kept true c h = rw (h refl) refl
     kept false c h = refl
 
-    go : (a b : Bool) → same x z ≡ a → same y z ≡ b → member y (keep (λ z. not (same x z)) l) ≡ (member y l && not (same y x)) →
-        member y (elim (not a) [ true ↦ z ∷ keep (λ z. not (same x z)) l | false ↦ keep (λ z. not (same x z)) l ]) ≡ ((b || member y l) && not (same y x))
+    go : (a b : Bool) → same x z ≡ a → same y z ≡ b → member y (keep (λ z. not (same x z)) l) ≡ (member y l && not (same y x))
+        → member y (elim (not a) [ true ↦ z ∷ keep (λ z. not (same x z)) l | false ↦ keep (λ z. not (same x z)) l ]) ≡ ((b || member y l) && not (same y x))
     go true b e f ih = ih ∙ dropped b (same y x) refl (λ t.
         let p = same→eq x z (true-T (same x z) e) in
         let q = same→eq y z (true-T (same y z) (f ∙ t)) in

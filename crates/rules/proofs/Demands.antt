@@ -125,5 +125,7 @@ countsTrue model list cells c e =
     let d = passed-seq (firstWalk model) _ c (b .1) in
     let w = passed-bind (secondWalk model list (fills cells)) (λ w. pass (counts w)) c (d .1) in
     let q : counts (w .0) ≡ c = pass-same (counts (w .0)) c (w .2) in
-    let n : w .0 .nodes ≡ nodeCount model = passed-tells (λ w. w .nodes ≡ nodeCount model) Any (secondWalk model list (fills cells)) (w .0) (second-counts model list (fills cells)) (w .1) in
+    let n : w .0 .nodes ≡ nodeCount model =
+    passed-tells (λ w. w .nodes ≡ nodeCount model) Any (secondWalk model list (fills cells)) (w .0) (second-counts model list (fills cells))
+    (w .1) in
     (ap (λ (k : Counts). k .nodes) (sym q) ∙ n, plain model list cells c e)

@@ -32,9 +32,13 @@ bind-same o f g h = ap (λ k. o >>= k) (λ i a. h a i)
 
 module _ (model : Bytes) where
   -- fields of a walked message that open messages of one kind: those were walked too
-  opens-kept : (kind : Kind) (depth : ℕ) (f : Field) (test : Field → Bool) (k : Kind) → ((g : Field) → T (test g) → kindOf (rowOf kind (g .number)) ≡ some k) → walked model kind depth [] (f .next) (f .start) ≡ pass tt → All (λ g. Sound model depth g k) (keep test (message model f .fields))
+  opens-kept : (kind : Kind) (depth : ℕ) (f : Field) (test : Field → Bool) (k : Kind)
+      → ((g : Field) → T (test g) → kindOf (rowOf kind (g .number)) ≡ some k) → walked model kind depth [] (f .next) (f .start) ≡ pass tt
+      → All (λ g. Sound model depth g k) (keep test (message model f .fields))
   unfolding message
-  opens-kept kind depth f test k e w = all-kept test (Opens model kind depth) (λ g. Sound model depth g k) (λ g o t. opened-as g o (e g t)) (message model f .fields) (walked-opens model kind depth (f .next) (f .start) w)
+  opens-kept kind depth f test k e w =
+      all-kept test (Opens model kind depth) (λ g. Sound model depth g k) (λ g o t. opened-as g o (e g t)) (message model f .fields)
+      (walked-opens model kind depth (f .next) (f .start) w)
     where
       opened-as : (g : Field) → Opens model kind depth g → kindOf (rowOf kind (g .number)) ≡ some k → Sound model depth g k
       opened-as g o q = rw q at o
@@ -49,13 +53,17 @@ module _ (model : Bytes) where
 
   bodies-sound : (depth : ℕ) (a : Field) → Sound model depth a Attribute → All (λ b. Sound model depth b Graph) (bodiesOf (message model a))
   unfolding bodiesOf Rows·computes kindOf deeper
-  bodies-sound depth a s = opens-kept Attribute depth a (λ g. eqb Attribute·g (g .number) || eqb Attribute·graphs (g .number)) Graph (λ g t. go g (or-cases (eqb Attribute·g (g .number)) (eqb Attribute·graphs (g .number)) t)) (s .1)
+  bodies-sound depth a s =
+      opens-kept Attribute depth a (λ g. eqb Attribute·g (g .number) || eqb Attribute·graphs (g .number)) Graph
+      (λ g t. go g (or-cases (eqb Attribute·g (g .number)) (eqb Attribute·graphs (g .number)) t)) (s .1)
     where
       go : (g : Field) → T (eqb Attribute·g (g .number)) ⊎ T (eqb Attribute·graphs (g .number)) → kindOf (rowOf Attribute (g .number)) ≡ some Graph
       go g (inl t) = rw (← (eqb→eq Attribute·g (g .number) t)) refl
       go g (inr t) = rw (← (eqb→eq Attribute·graphs (g .number) t)) refl
 
-  all-sound : (depth : ℕ) (f : Field) → walked model Graph depth [] (f .next) (f .start) ≡ pass tt → All (λ n. All (λ a. All (λ b. Sound model depth b Graph) (bodiesOf (message model a))) (allOf Node·attribute (message model n))) (allOf Graph·node (message model f))
+  all-sound : (depth : ℕ) (f : Field) → walked model Graph depth [] (f .next) (f .start) ≡ pass tt
+      → All (λ n. All (λ a. All (λ b. Sound model depth b Graph) (bodiesOf (message model a))) (allOf Node·attribute (message model n)))
+      (allOf Graph·node (message model f))
   all-sound depth f w =
       all-map (λ n. Sound model depth n Node) _ (λ n s.
       all-map (λ a. Sound model depth a Attribute) _ (λ a s. bodies-sound depth a s)
@@ -72,20 +80,30 @@ module _ (model : Bytes) where
     unfolding attribute
     attribute-agrees w a q = rw (each-agree Q (body J) (body K) body-agrees (bodiesOf (message model a)) q (w .walk)) refl
 
-    node-agrees : (w : Along) (n : Field) → All (λ a. All Q (bodiesOf (message model a))) (allOf Node·attribute (message model n)) → node model full c J w n ≡ node model full c K w n
+    node-agrees : (w : Along) (n : Field) → All (λ a. All Q (bodiesOf (message model a))) (allOf Node·attribute (message model n))
+        → node model full c J w n ≡ node model full c K w n
     unfolding node
-    node-agrees w n q = rw (each-agree (λ a. All Q (bodiesOf (message model a))) (attribute model J) (attribute model K) attribute-agrees (allOf Node·attribute (message model n)) q (along (w .walk))) refl
+    node-agrees w n q =
+        rw (each-agree (λ a. All Q (bodiesOf (message model a))) (attribute model J) (attribute model K) attribute-agrees
+        (allOf Node·attribute (message model n)) q (along (w .walk))) refl
 
-    graph-agrees : (w : Walk) (f : Field) → All (λ n. All (λ a. All Q (bodiesOf (message model a))) (allOf Node·attribute (message model n))) (allOf Graph·node (message model f)) → graphWith model full c J w f ≡ graphWith model full c K w f
+    graph-agrees : (w : Walk) (f : Field)
+        → All (λ n. All (λ a. All Q (bodiesOf (message model a))) (allOf Node·attribute (message model n))) (allOf Graph·node (message model f))
+        → graphWith model full c J w f ≡ graphWith model full c K w f
     unfolding graphWith
-    graph-agrees w f q = simp (each-agree (λ n. All (λ a. All Q (bodiesOf (message model a))) (allOf Node·attribute (message model n))) (node model full c J) (node model full c K) node-agrees (allOf Graph·node (message model f)) q) refl
+    graph-agrees w f q =
+        simp (each-agree (λ n. All (λ a. All Q (bodiesOf (message model a))) (allOf Node·attribute (message model n))) (node model full c J)
+        (node model full c K) node-agrees (allOf Graph·node (message model f)) q) refl
 
   -- ---- the depths left
 
-  depths-agree : (full : ℕ → Bool) (left more depth : ℕ) → depth + left ≡ 8 → (c : Context) (w : Walk) (f : Field) → walked model Graph depth [] (f .next) (f .start) ≡ pass tt → graph model full (suc left) c w f ≡ graph model full (suc (more + left)) c w f
+  depths-agree : (full : ℕ → Bool) (left more depth : ℕ) → depth + left ≡ 8 → (c : Context) (w : Walk) (f : Field)
+      → walked model Graph depth [] (f .next) (f .start) ≡ pass tt
+      → graph model full (suc left) c w f ≡ graph model full (suc (more + left)) c w f
   unfolding graph isGraph deeper
   depths-agree full zero more depth e c w f s =
-      graph-agrees full c (graph model full zero (nestedIn c)) (graph model full (more + zero) (nestedIn c)) (λ b. Sound model depth b Graph) (λ v b t. absurd (too-deep b t)) w f (all-sound depth f s)
+      graph-agrees full c (graph model full zero (nestedIn c)) (graph model full (more + zero) (nestedIn c)) (λ b. Sound model depth b Graph)
+      (λ v b t. absurd (too-deep b t)) w f (all-sound depth f s)
     where
       too-deep : (b : Field) → Sound model depth b Graph → ⊥
       too-deep b t = let q : depth ≡ 8 = omega arith in rw q at (t .0)
@@ -100,7 +118,9 @@ module _ (model : Bytes) where
 
   pub second-bound : (list : Bytes) (full : ℕ → Bool) (depth : ℕ) → firstWalk model ≡ pass tt → 8 ≤ depth → secondWalkTo model list depth full ≡ secondWalk model list full
   unfolding secondWalkTo secondWalk deeper isGraph
-  second-bound list full depth w h = bind-same (header model list (message model (whole model))) _ _ (λ imports. go (record { imports = imports; main = true }) (firstOf Model·graph (message model (whole model))) (main-sound w))
+  second-bound list full depth w h =
+      bind-same (header model list (message model (whole model))) _ _
+      (λ imports. go (record { imports = imports; main = true }) (firstOf Model·graph (message model (whole model))) (main-sound w))
     where
       go : (c : Context) (o : Option Field) → If (λ g. Sound model 0 g Graph) o → _≡_ {A = Judged Walk}
           (elim o [ none ↦ refused 11 (message model (whole model) .place) | some g ↦ graph model full depth c start g ])

@@ -12,16 +12,19 @@ use Rattle.wire.specs.Lists.{isEmpty, present, contains, keep}
 use Rattle.wire.specs.Bytes.{Bytes, same, member}
 use Rattle.wire.specs.Message.{Message, allOf, numberOf, placeOf, text, bytesOf, message}
 use Rattle.wire.proofs.Tells.{Any, any-all}
-use Rattle.schema.specs.Numbers.{Graph·name, Graph·node, Graph·initializer, Graph·input, Graph·output, Node·input, Node·output, Node·op-type, Node·attribute, Attribute·name, Tensor·name, Tensor·data-type, ValueInfo·name}
+use Rattle.schema.specs.Numbers.{Graph·name, Graph·node, Graph·initializer, Graph·input, Graph·output, Node·input, Node·output}
+use Rattle.schema.specs.Numbers.{Node·op-type, Node·attribute, Attribute·name, Tensor·name, Tensor·data-type, ValueInfo·name}
 use Rattle.rules.specs.Identifier.{identifier}
 use Rattle.rules.specs.Names.{Name, nameOf, nameIn, bodiesOf, inputsOf, bodiesIn}
 use Rattle.rules.specs.Walk.{Context, nestedIn, inMain, Walk, withName, withNode, leaving, Along, along, visible, naming, define}
 use Rattle.rules.specs.Types.{isElement, declaredType}
 use Rattle.rules.specs.Node.{nodeName, nodeInput, nodeOutput, body, attribute, node}
 use Rattle.rules.specs.Graph.{input, isDefault, defaultOrNew, initializer, output, graphWith, graph}
-use Rattle.rules.specs.Runner.{binds, reads, visits, unlessEmpty, initializers, nodeScript, script, reading, Run, Ran, find, withBound, withRead, bind, read, unchosen, choose, forget, perform, runGraph}
+use Rattle.rules.specs.Runner.{binds, reads, visits, unlessEmpty, initializers, nodeScript, script, reading, Run, Ran}
+use Rattle.rules.specs.Runner.{find, withBound, withRead, bind, read, unchosen, choose, forget, perform, runGraph}
 use Rattle.rules.proofs.Rules.{Type·refusals, main-type-tells, nodeName-tells}
-use Rattle.rules.proofs.Matching.{stopOf, Matches, Quiet, quiet-among, quiet-rule, bind-matches, after-matches, seq-matches, then-pass, then-quiet, quiet-matches, quiet-then, each-matches, bind-assoc, bind-pass, each-append, each-map, each-flat}
+use Rattle.rules.proofs.Matching.{stopOf, Matches, Quiet, quiet-among, quiet-rule, bind-matches, after-matches, seq-matches, then-pass}
+use Rattle.rules.proofs.Matching.{then-quiet, quiet-matches, quiet-then, each-matches, bind-assoc, bind-pass, each-append, each-map, each-flat}
 use Rattle.rules.proofs.Visits.{visit-once}
 use Rattle.rules.proofs.Defaults.{Agree, agree-first, agree-default, agree-new}
 
@@ -52,12 +55,14 @@ define-matches full w x r h = go (find (x .bytes) (r .bound)) refl
   where
     go : (o : Option ℕ) → find (x .bytes) (r .bound) ≡ o → Matches InStep (define full w x) (bind r x)
     go none e = rw (found-in-step w x r none h e, e, define, bind)
-        (quiet-then InStep (refuse 40 at: x .place when: full (length (w .scope))) (pass (withName w x)) (pass (withBound r x)) (quiet-rule 40 (x .place) (full (length (w .scope))) refl)
+        (quiet-then InStep (refuse 40 at: x .place when: full (length (w .scope))) (pass (withName w x)) (pass (withBound r x))
+        (quiet-rule 40 (x .place) (full (length (w .scope))) refl)
         (withBound r x, refl, (ap (λ (l : List Name). x ∷ l) (h .0), h .1, ap₂ (λ (n : ℕ) (l : List Name). max n (length l + 1)) (h .2) (h .0))))
     go (some p) e = rw (found-in-step w x r (some p) h e, e, define, bind) refl
 
 -- a rule that tests whether a name is visible, with a number that is tied to a read
-read-matches : (n : ℕ) (w : Walk) (x : Name) (r : Run) → ((p : ℕ) → stopOf (record { number = n; place = p }) ≡ some (reading p)) → InStep w r → Matches (λ _ s. InStep w s) (refuse n at: x .place when: not (visible (x .bytes) (w .scope))) (read r x)
+read-matches : (n : ℕ) (w : Walk) (x : Name) (r : Run) → ((p : ℕ) → stopOf (record { number = n; place = p }) ≡ some (reading p)) → InStep w r
+    → Matches (λ _ s. InStep w s) (refuse n at: x .place when: not (visible (x .bytes) (w .scope))) (read r x)
 unfolding read withRead present refuse_at:_when:_
 read-matches n w x r q h = go (find (x .bytes) (r .bound)) refl
   where
@@ -66,7 +71,9 @@ read-matches n w x r q h = go (find (x .bytes) (r .bound)) refl
     go (some p) e = rw (found-in-step w x r (some p) h e, e, read) (withRead r (x .place) p, refl, h)
 
 module _ (model : Bytes) where
-  naming-matches : {C D : Type 0} (S : C → D → Type 0) (empty k : ℕ) (m : Message) (f : Name → Judged C) (o : Outcome _ D) → ((p : ℕ) → stopOf (record { number = empty; place = p }) ≡ none) → Matches S (f (nameOf model k m)) o → Matches S (naming model empty k m >>= f) o
+  naming-matches : {C D : Type 0} (S : C → D → Type 0) (empty k : ℕ) (m : Message) (f : Name → Judged C) (o : Outcome _ D)
+      → ((p : ℕ) → stopOf (record { number = empty; place = p }) ≡ none) → Matches S (f (nameOf model k m)) o
+      → Matches S (naming model empty k m >>= f) o
   unfolding naming _>>=_ _>>_ refuse_at:_when:_
   naming-matches S empty k m f o q h = go (isEmpty (bytesOf model k m)) (not (identifier (bytesOf model k m)))
     where
@@ -77,30 +84,38 @@ module _ (model : Bytes) where
 
   quiet-type : (c : Context) (v : Message) → Quiet (inMain c (declaredType model v))
   unfolding contains
-  quiet-type c v = quiet-among Any Any Type·refusals (inMain c (declaredType model v)) (tt, tt, tt) (main-type-tells model Any Any (λ f g. tt) (λ f g. any-all (message model f .fields)) c v (tt, any-all (v .fields)))
+  quiet-type c v =
+      quiet-among Any Any Type·refusals (inMain c (declaredType model v)) (tt, tt, tt)
+      (main-type-tells model Any Any (λ f g. tt) (λ f g. any-all (message model f .fields)) c v (tt, any-all (v .fields)))
 
   quiet-nodeName : (earlier : List Bytes) (m : Message) → Quiet (nodeName model earlier m)
   unfolding contains
-  quiet-nodeName earlier m = quiet-among Any Any (21 ∷ 29 ∷ []) (nodeName model earlier m) (tt, tt, tt) (nodeName-tells model Any Any (λ f g. tt) (λ f g. any-all (message model f .fields)) earlier m (tt, any-all (m .fields)))
+  quiet-nodeName earlier m =
+      quiet-among Any Any (21 ∷ 29 ∷ []) (nodeName model earlier m) (tt, tt, tt)
+      (nodeName-tells model Any Any (λ f g. tt) (λ f g. any-all (message model f .fields)) earlier m (tt, any-all (m .fields)))
 
 -- ---- one level: `J` judges and `K` runs the graphs further in
 
-module _ (model : Bytes) (full : ℕ → Bool) (c : Context) (J : Walk → Field → Judged Walk) (K : Run → Field → Ran) (nest : (w : Walk) (r : Run) (f : Field) → InStep w r → Matches InStep (J w f) (K r f)) where
+module _ (model : Bytes) (full : ℕ → Bool) (c : Context) (J : Walk → Field → Judged Walk) (K : Run → Field → Ran)
+    (nest : (w : Walk) (r : Run) (f : Field) → InStep w r → Matches InStep (J w f) (K r f)) where
   input-matches : (w : Walk) (r : Run) (f : Field) → InStep w r → Matches InStep (input model full c w f) (perform K r (binds (nameOf model ValueInfo·name (message model f))))
   unfolding input perform
   input-matches w r f h =
       naming-matches model InStep 22 ValueInfo·name (message model f) _ _ (λ p. refl)
-      (after-matches InStep InStep (define full w (nameOf model ValueInfo·name (message model f))) (bind r (nameOf model ValueInfo·name (message model f))) _ (define-matches full w _ r h)
+      (after-matches InStep InStep (define full w (nameOf model ValueInfo·name (message model f)))
+      (bind r (nameOf model ValueInfo·name (message model f))) _ (define-matches full w _ r h)
       (λ v s k. quiet-then InStep (inMain c (declaredType model (message model f))) (pass v) (pass s) (quiet-type model c _) (s, refl, k)))
 
-  node-input : (w : Walk) (u : Unit {0}) (r : Run) (f : Field) → InStep w r → Matches (λ _ s. InStep w s) (nodeInput model (w .scope) u f) (each (perform K) r (unlessEmpty reads (nameIn model f)))
+  node-input : (w : Walk) (u : Unit {0}) (r : Run) (f : Field) → InStep w r
+      → Matches (λ _ s. InStep w s) (nodeInput model (w .scope) u f) (each (perform K) r (unlessEmpty reads (nameIn model f)))
   unfolding nodeInput unlessEmpty nameIn isEmpty perform each
   node-input w u r f h = go (text model f) refl
     where
       go : (t : Bytes) → text model f ≡ t → Matches (λ _ s. InStep w s) (nodeInput model (w .scope) u f) (each (perform K) r (unlessEmpty reads (nameIn model f)))
       go [] e = rw (e, nodeInput, unlessEmpty) (r, refl, h)
       go (b ∷ t) e = rw (e, nodeInput, unlessEmpty, bind-pass)
-          (quiet-then (λ _ s. InStep w s) (refuse 21 at: f .place when: not (identifier (text model f))) (refuse 30 at: f .place when: not (visible (text model f) (w .scope))) (read r (nameIn model f))
+          (quiet-then (λ _ s. InStep w s) (refuse 21 at: f .place when: not (identifier (text model f)))
+          (refuse 30 at: f .place when: not (visible (text model f) (w .scope))) (read r (nameIn model f))
           (quiet-rule 21 (f .place) (not (identifier (text model f))) refl) (read-matches 30 w (nameIn model f) r (λ p. refl) h))
 
   node-output : (w : Walk) (r : Run) (f : Field) → InStep w r → Matches InStep (nodeOutput model full w f) (each (perform K) r (unlessEmpty binds (nameIn model f)))
@@ -113,7 +128,8 @@ module _ (model : Bytes) (full : ℕ → Bool) (c : Context) (J : Walk → Field
           (quiet-then InStep (refuse 21 at: f .place when: not (identifier (text model f))) (define full w (nameIn model f)) (bind r (nameIn model f))
           (quiet-rule 21 (f .place) (not (identifier (text model f))) refl) (define-matches full w (nameIn model f) r h))
 
-  output-matches : (w : Walk) (u : Unit {0}) (r : Run) (f : Field) → InStep w r → Matches (λ _ s. InStep w s) (output model c (w .scope) u f) (perform K r (reads (nameOf model ValueInfo·name (message model f))))
+  output-matches : (w : Walk) (u : Unit {0}) (r : Run) (f : Field) → InStep w r
+      → Matches (λ _ s. InStep w s) (output model c (w .scope) u f) (perform K r (reads (nameOf model ValueInfo·name (message model f))))
   unfolding output perform
   output-matches w u r f h =
       let x = nameOf model ValueInfo·name (message model f) in
@@ -128,7 +144,8 @@ module _ (model : Bytes) (full : ℕ → Bool) (c : Context) (J : Walk → Field
       rw (visit-once K r f (h .1))
       (bind-matches InStep InStep (J w f) (K (choose r) f) _ _ (nest w (choose r) f (h .0, ap unchosen (h .1), h .2)) (λ v s k. (_, refl, (h .0, k .1, k .2))))
 
-  attribute-matches : (w : Along) (r : Run) (f : Field) → InStepAlong w r → Matches InStepAlong (attribute model J w f) (each (λ s b. perform K s (visits b)) r (bodiesOf (message model f)))
+  attribute-matches : (w : Along) (r : Run) (f : Field) → InStepAlong w r
+      → Matches InStepAlong (attribute model J w f) (each (λ s b. perform K s (visits b)) r (bodiesOf (message model f)))
   unfolding attribute
   attribute-matches w r f h =
       naming-matches model InStepAlong 22 Attribute·name (message model f) _ _ (λ p. refl)
@@ -154,12 +171,15 @@ module _ (model : Bytes) (full : ℕ → Bool) (c : Context) (J : Walk → Field
       (quiet-then InStepAlong (refuse 28 at: _ when: _) _ _ (quiet-rule 28 _ _ refl)
       (quiet-matches InStepAlong (nodeName model (w .earlier) m) _ _ (quiet-nodeName model (w .earlier) m) (λ names.
       seq-matches (InStep (w .walk)) InStepAlong (each (nodeInput model (w .walk .scope)) tt (allOf Node·input m)) _ _ _
-      (each-matches (λ _ s. InStep (w .walk) s) (nodeInput model (w .walk .scope)) (λ s i. each (perform K) s (unlessEmpty reads (nameIn model i))) (λ u s i k. node-input (w .walk) u s i k) (allOf Node·input m) tt r h)
+      (each-matches (λ _ s. InStep (w .walk) s) (nodeInput model (w .walk .scope)) (λ s i. each (perform K) s (unlessEmpty reads (nameIn model i)))
+      (λ u s i k. node-input (w .walk) u s i k) (allOf Node·input m) tt r h)
       (λ s k. bind-matches InStepAlong InStepAlong (each (attribute model J) (along (w .walk)) (allOf Node·attribute m)) _ _ _
-      (each-matches InStepAlong (attribute model J) (λ s a. each (λ s b. perform K s (visits b)) s (bodiesOf (message model a))) (λ v s a k. attribute-matches v s a k) (allOf Node·attribute m) (along (w .walk)) s k)
+      (each-matches InStepAlong (attribute model J) (λ s a. each (λ s b. perform K s (visits b)) s (bodiesOf (message model a)))
+      (λ v s a k. attribute-matches v s a k) (allOf Node·attribute m) (along (w .walk)) s k)
       (λ v t k. quiet-then InStepAlong (refuse 34 at: _ when: _) _ _ (quiet-rule 34 _ _ refl)
       (after-matches InStep InStepAlong (each (nodeOutput model full) (v .walk) (allOf Node·output m)) _ _
-      (each-matches InStep (nodeOutput model full) (λ s o. each (perform K) s (unlessEmpty binds (nameIn model o))) (λ v s o k. node-output v s o k) (allOf Node·output m) (v .walk) t k)
+      (each-matches InStep (nodeOutput model full) (λ s o. each (perform K) s (unlessEmpty binds (nameIn model o))) (λ v s o k. node-output v s o k)
+      (allOf Node·output m) (v .walk) t k)
       (λ v s k. (s, refl, k)))))))))
 
   -- ---- initializers, with their defaults
@@ -177,7 +197,9 @@ module _ (model : Bytes) (full : ℕ → Bool) (c : Context) (J : Walk → Field
         go (pass u) q = m
         go (fail r) q = rw q tt
 
-    initializers-match : (fs : List Field) (w : Along) (waiting : List Bytes) (r : Run) → InStepAlong w r → Agree c inputs (w .earlier) waiting → Matches InStepAlong (each (initializer model full c inputs) w fs) (each (perform K) r (initializers model waiting fs))
+    initializers-match : (fs : List Field) (w : Along) (waiting : List Bytes) (r : Run)
+        → InStepAlong w r → Agree c inputs (w .earlier) waiting
+        → Matches InStepAlong (each (initializer model full c inputs) w fs) (each (perform K) r (initializers model waiting fs))
     unfolding each initializer initializers type-test defaultOrNew perform _>>=_
     initializers-match [] w waiting r h a = (r, refl, h)
     initializers-match (f ∷ more) w waiting r h a =
@@ -191,9 +213,11 @@ module _ (model : Bytes) (full : ℕ → Bool) (c : Context) (J : Walk → Field
         with-x : Walk → Along
         with-x v = record { walk = v; earlier = x .bytes ∷ w .earlier }
 
-        go : (b m : Bool) → isDefault c inputs (w .earlier) (x .bytes) ≡ b → m ≡ b →
-            ((v : Along) (waiting : List Bytes) (s : Run) → InStepAlong v s → Agree c inputs (v .earlier) waiting → Matches InStepAlong (each (initializer model full c inputs) v more) (each (perform K) s (initializers model waiting more))) →
-            Matches InStepAlong ((elim b as (λ _. Judged Walk) [ true ↦ pass (w .walk) | false ↦ define full (w .walk) x ]) >>= (λ v. type-test f >> pass (with-x v)) >>= λ v. each (initializer model full c inputs) v more)
+        go : (b m : Bool) → isDefault c inputs (w .earlier) (x .bytes) ≡ b → m ≡ b
+            → ((v : Along) (waiting : List Bytes) (s : Run) → InStepAlong v s → Agree c inputs (v .earlier) waiting
+            → Matches InStepAlong (each (initializer model full c inputs) v more) (each (perform K) s (initializers model waiting more)))
+            → Matches InStepAlong ((elim b as (λ _. Judged Walk) [ true ↦ pass (w .walk) | false ↦ define full (w .walk) x ])
+            >>= (λ v. type-test f >> pass (with-x v)) >>= λ v. each (initializer model full c inputs) v more)
             (each (perform K) r (elim m [ true ↦ initializers model (keep (λ y. not (same (x .bytes) y)) waiting) more | false ↦ binds x ∷ initializers model waiting more ]))
         go true true e q ih = last-matches (with-x (w .walk)) f _ _ (ih (with-x (w .walk)) _ r h (agree-default c inputs (w .earlier) waiting (x .bytes) a))
         go false false e q ih =
@@ -220,18 +244,24 @@ module _ (model : Bytes) (full : ℕ → Bool) (c : Context) (J : Walk → Field
       naming-matches model InStep 20 Graph·name g _ _ (λ p. refl)
       (quiet-then InStep (refuse 16 at: _ when: _) _ _ (quiet-rule 16 _ _ refl)
       (bind-matches InStep InStep (each (input model full c) w (allOf Graph·input g)) _ _ _
-      (each-matches InStep (input model full c) (λ s i. perform K s (binds (nameOf model ValueInfo·name (message model i)))) (λ v s i k. input-matches v s i k) (allOf Graph·input g) w r h)
+      (each-matches InStep (input model full c) (λ s i. perform K s (binds (nameOf model ValueInfo·name (message model i))))
+      (λ v s i k. input-matches v s i k) (allOf Graph·input g) w r h)
       (λ v s k. bind-matches InStepAlong InStep (each (initializer model full c (inputsOf model g)) (along v) (allOf Graph·initializer g)) _ _ _
       (initializers-match (inputsOf model g) (allOf Graph·initializer g) (along v) _ s k (agree-first c (inputsOf model g)))
       (λ i t k. bind-matches InStepAlong InStep (each (node model full c J) (along (i .walk)) (allOf Graph·node g)) _ _ _
       (each-matches InStepAlong (node model full c J) (λ s n. each (perform K) s (nodeScript model n)) (λ v s n k. node-matches v s n k) (allOf Graph·node g) (along (i .walk)) t k)
       (λ n u k. then-pass (InStep (n .walk)) InStep (each (output model c (n .walk .scope)) tt (allOf Graph·output g)) (n .walk) _
-      (each-matches (λ _ s. InStep (n .walk) s) (output model c (n .walk .scope)) (λ s o. perform K s (reads (nameOf model ValueInfo·name (message model o)))) (λ x s o k. output-matches (n .walk) x s o k) (allOf Graph·output g) tt u k) (λ s k. k)))))))
+      (each-matches (λ _ s. InStep (n .walk) s) (output model c (n .walk .scope))
+      (λ s o. perform K s (reads (nameOf model ValueInfo·name (message model o)))) (λ x s o k. output-matches (n .walk) x s o k)
+      (allOf Graph·output g) tt u k) (λ s k. k)))))))
 
 -- ---- the depths: the runner has as many as the judge, or more
 
-pub depths-match : (model : Bytes) (full : ℕ → Bool) (left more : ℕ) (c : Context) (w : Walk) (r : Run) (f : Field) → InStep w r → Matches InStep (graph model full left c w f) (runGraph model (more + left) (c .main) r f)
+pub depths-match : (model : Bytes) (full : ℕ → Bool) (left more : ℕ) (c : Context) (w : Walk) (r : Run) (f : Field)
+    → InStep w r
+    → Matches InStep (graph model full left c w f) (runGraph model (more + left) (c .main) r f)
 unfolding graph runGraph nestedIn
 depths-match model full zero more c w r f h = tt
 depths-match model full (suc left) more c w r f h = rw add-suc
-    (graph-matches model full c (graph model full left (nestedIn c)) (runGraph model (more + left) false) (λ w r f h. depths-match model full left more (nestedIn c) w r f h) w r f h)
+    (graph-matches model full c (graph model full left (nestedIn c)) (runGraph model (more + left) false)
+    (λ w r f h. depths-match model full left more (nestedIn c) w r f h) w r f h)

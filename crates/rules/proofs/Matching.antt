@@ -39,7 +39,8 @@ Untied ns = T (not (contains 23 ns)) × T (not (contains 30 ns)) × T (not (cont
 not-one-of : (n k : ℕ) (ns : List ℕ) → T (not (contains k ns)) → T (contains n ns) → T (not (eqb n k))
 not-one-of n k ns h t = not-T (eqb n k) (λ e. T-not (contains n ns) (rw (← (eqb→eq n k e)) at h) t)
 
-silent : (p : ℕ) (a b c : Bool) → T (not a) → T (not b) → T (not c) → _≡_ {A = Option Stop} (elim a [ true ↦ some (binding p) | false ↦ elim (b || c) [ true ↦ some (reading p) | false ↦ none ] ]) none
+silent : (p : ℕ) (a b c : Bool) → T (not a) → T (not b) → T (not c)
+    → _≡_ {A = Option Stop} (elim a [ true ↦ some (binding p) | false ↦ elim (b || c) [ true ↦ some (reading p) | false ↦ none ] ]) none
 silent p true b c h i j = absurd h
 silent p false true c h i j = absurd i
 silent p false false true h i j = absurd j
@@ -47,7 +48,8 @@ silent p false false false h i j = refl
 
 pub quiet-among : {A : Type 0} (R : A → Type 0) (Q : ℕ → Type 0) (ns : List ℕ) (j : Judged A) → Untied ns → Tells R (Among ns Q) j → Quiet j
 quiet-among R Q ns j u t = tells-weaken R Any (Among ns Q) (λ r. stopOf r ≡ none) j (λ a h. tt) (λ r h.
-    silent (r .place) (eqb (r .number) 23) (eqb (r .number) 30) (eqb (r .number) 35) (not-one-of (r .number) 23 ns (u .0) (h .0)) (not-one-of (r .number) 30 ns (u .1) (h .0)) (not-one-of (r .number) 35 ns (u .2) (h .0))) t
+    silent (r .place) (eqb (r .number) 23) (eqb (r .number) 30) (eqb (r .number) 35) (not-one-of (r .number) 23 ns (u .0) (h .0))
+    (not-one-of (r .number) 30 ns (u .1) (h .0)) (not-one-of (r .number) 35 ns (u .2) (h .0))) t
 
 pub quiet-rule : (n p : ℕ) (b : Bool) → stopOf (record { number = n; place = p }) ≡ none → Quiet (refuse n at: p when: b)
 quiet-rule n p b h = tells-last (λ r. stopOf r ≡ none) n p b (λ t. h)
@@ -60,7 +62,9 @@ tied-bind none o g t = tt
 tied-bind (some e) o g t = rw t refl
 
 module _ {A B C D : Type 0} (R : A → B → Type 0) (S : C → D → Type 0) where
-  pub bind-matches : (j : Judged A) (o : Outcome Stop B) (f : A → Judged C) (g : B → Outcome Stop D) → Matches R j o → ((a : A) (b : B) → R a b → Matches S (f a) (g b)) → Matches S (j >>= f) (o >>= g)
+  pub bind-matches : (j : Judged A) (o : Outcome Stop B) (f : A → Judged C) (g : B → Outcome Stop D)
+      → Matches R j o → ((a : A) (b : B) → R a b → Matches S (f a) (g b))
+      → Matches S (j >>= f) (o >>= g)
   unfolding _>>=_
   bind-matches (pass a) o f g m k = rw (m .1) (k a (m .0) (m .2))
   bind-matches (fail r) o f g m k = tied-bind (stopOf r) o g m
@@ -73,7 +77,9 @@ module _ {A B C : Type 0} (R : A → B → Type 0) (S : C → B → Type 0) wher
   after-matches (fail r) o f m k = m
 
 module _ {B C D : Type 0} (R : B → Type 0) (S : C → D → Type 0) where
-  pub seq-matches : (j : Rule) (o : Outcome Stop B) (k : Judged C) (g : B → Outcome Stop D) → Matches (λ _ b. R b) j o → ((b : B) → R b → Matches S k (g b)) → Matches S (j >> k) (o >>= g)
+  pub seq-matches : (j : Rule) (o : Outcome Stop B) (k : Judged C) (g : B → Outcome Stop D)
+      → Matches (λ _ b. R b) j o → ((b : B) → R b → Matches S k (g b))
+      → Matches S (j >> k) (o >>= g)
   unfolding _>>=_ _>>_
   seq-matches (pass a) o k g m h = rw (m .1) (h (m .0) (m .2))
   seq-matches (fail r) o k g m h = tied-bind (stopOf r) o g m
@@ -105,7 +111,8 @@ module _ {C D : Type 0} (S : C → D → Type 0) where
 
 -- ---- along a list
 
-module _ {A S T : Type 0} (R : S → T → Type 0) (step : S → A → Judged S) (move : T → A → Outcome Stop T) (one : (s : S) (t : T) (a : A) → R s t → Matches R (step s a) (move t a)) where
+module _ {A S T : Type 0} (R : S → T → Type 0) (step : S → A → Judged S) (move : T → A → Outcome Stop T)
+    (one : (s : S) (t : T) (a : A) → R s t → Matches R (step s a) (move t a)) where
   pub each-matches : (as′ : List A) (s : S) (t : T) → R s t → Matches R (each step s as′) (each move t as′)
   unfolding each
   each-matches [] s t r = (t, refl, r)

@@ -12,7 +12,8 @@ use Rattle.wire.specs.Bytes.{Bytes}
 use Rattle.wire.specs.Message.{Message, allOf, firstOf, placeOf, bytesOf, message}
 use Rattle.wire.proofs.Lists.{or-left, or-right, All, If, all-keep, all-first, subset, contains-subset}
 use Rattle.wire.proofs.Tells.{Tells, Any, Among, tells-bind, tells-weaken, tells-if, tells-option, tells-rule, tells-last, tells-each}
-use Rattle.schema.specs.Numbers.{Model·ir-version, Model·opset-import, Model·functions, ValueInfo·type, TypeProto·tensor, TensorType·elem-type, TensorType·shape, Shape·dim, Dimension·dim-value, Dimension·dim-param, Node·name}
+use Rattle.schema.specs.Numbers.{Model·ir-version, Model·opset-import, Model·functions, ValueInfo·type, TypeProto·tensor}
+use Rattle.schema.specs.Numbers.{TensorType·elem-type, TensorType·shape, Shape·dim, Dimension·dim-value, Dimension·dim-param, Node·name}
 use Rattle.rules.specs.Names.{nameOf, bodiesOf}
 use Rattle.rules.specs.Walk.{Context, inMain, naming}
 use Rattle.rules.specs.Types.{dim, tensorType, declaredType}
@@ -28,7 +29,8 @@ Type·refusals = 21 ∷ 24 ∷ 25 ∷ 37 ∷ 38 ∷ []
 abbrev pub Header·refusals : List ℕ
 Header·refusals = 10 ∷ 11 ∷ 12 ∷ 13 ∷ 14 ∷ 15 ∷ []
 
-module _ (model : Bytes) (Good : Field → Type 0) (Q : ℕ → Type 0) (good-at : (f : Field) → Good f → Q (f .place)) (good-in : (f : Field) → Good f → All Good (message model f .fields)) where
+module _ (model : Bytes) (Good : Field → Type 0) (Q : ℕ → Type 0) (good-at : (f : Field) → Good f → Q (f .place))
+    (good-in : (f : Field) → Good f → All Good (message model f .fields)) where
   abbrev pub GoodMessage : Message → Type 0
   GoodMessage m = Q (m .place) × All Good (m .fields)
 
@@ -72,20 +74,23 @@ module _ (model : Bytes) (Good : Field → Type 0) (Q : ℕ → Type 0) (good-at
   unfolding dim contains
   dim-tells u f g =
       let h = good-message f g in
-      tells-rule Any (Among Type·refusals Q) 38 _ _ _ (λ b. (tt, good-place Dimension·dim-value (message model f) h)) (λ b. tells-last (Among Type·refusals Q) 21 _ _ (λ b. (tt, good-place Dimension·dim-param (message model f) h)))
+      tells-rule Any (Among Type·refusals Q) 38 _ _ _ (λ b. (tt, good-place Dimension·dim-value (message model f) h))
+      (λ b. tells-last (Among Type·refusals Q) 21 _ _ (λ b. (tt, good-place Dimension·dim-param (message model f) h)))
 
   tensor-tells : (t : Message) → GoodMessage t → Tells Any (Among Type·refusals Q) (tensorType model t)
   unfolding tensorType contains
   tensor-tells t g =
       tells-rule Any (Among Type·refusals Q) 25 _ _ _ (λ b. (tt, good-place TensorType·elem-type t g)) (λ b.
       tells-option Any (Among Type·refusals Q) Good (firstOf TensorType·shape t) _ _ (good-first TensorType·shape t g) (tt, g .0) (λ shape h.
-      tells-each Good Any (Among Type·refusals Q) (dim model) (λ u f _ k. dim-tells u f k) (allOf Shape·dim (message model shape)) (good-all Shape·dim (message model shape) (good-message shape h)) tt tt))
+      tells-each Good Any (Among Type·refusals Q) (dim model) (λ u f _ k. dim-tells u f k) (allOf Shape·dim (message model shape))
+      (good-all Shape·dim (message model shape) (good-message shape h)) tt tt))
 
   pub type-tells : (v : Message) → GoodMessage v → Tells Any (Among Type·refusals Q) (declaredType model v)
   unfolding declaredType contains
   type-tells v g =
       tells-option Any (Among Type·refusals Q) Good (firstOf ValueInfo·type v) _ _ (good-first ValueInfo·type v g) (tt, g .0) (λ t h.
-      tells-option Any (Among Type·refusals Q) Good (firstOf TypeProto·tensor (message model t)) _ _ (good-first TypeProto·tensor (message model t) (good-message t h)) (tt, good-at t h) (λ u k.
+      tells-option Any (Among Type·refusals Q) Good (firstOf TypeProto·tensor (message model t)) _ _
+      (good-first TypeProto·tensor (message model t) (good-message t h)) (tt, good-at t h) (λ u k.
       tensor-tells (message model u) (good-message u k)))
 
   pub main-type-tells : (c : Context) (v : Message) → GoodMessage v → Tells Any (Among Type·refusals Q) (inMain c (declaredType model v))
@@ -97,13 +102,16 @@ module _ (model : Bytes) (Good : Field → Type 0) (Q : ℕ → Type 0) (good-at
   pub nodeName-tells : (earlier : List Bytes) (m : Message) → GoodMessage m → Tells Any (Among (21 ∷ 29 ∷ []) Q) (nodeName model earlier m)
   unfolding nodeName contains
   nodeName-tells earlier m g = tells-if Any (Among (21 ∷ 29 ∷ []) Q) (isEmpty (bytesOf model Node·name m)) _ _ (λ b. tt) (λ b.
-      tells-rule Any (Among (21 ∷ 29 ∷ []) Q) 21 _ _ _ (λ b. (tt, good-place Node·name m g)) (λ b. tells-rule Any (Among (21 ∷ 29 ∷ []) Q) 29 _ _ _ (λ b. (tt, good-place Node·name m g)) (λ b. tt)))
+      tells-rule Any (Among (21 ∷ 29 ∷ []) Q) 21 _ _ _ (λ b. (tt, good-place Node·name m g))
+      (λ b. tells-rule Any (Among (21 ∷ 29 ∷ []) Q) 29 _ _ _ (λ b. (tt, good-place Node·name m g)) (λ b. tt)))
 
   -- ---- the header
 
   import-tells : (list : Bytes) (imports : List Bytes) (f : Field) → Good f → Tells Any (Among Header·refusals Q) (opsetImport model list imports f)
   unfolding opsetImport contains message
-  import-tells list imports f g = tells-rule Any (Among Header·refusals Q) 13 _ _ _ (λ b. (tt, good-at f g)) (λ b. tells-rule Any (Among Header·refusals Q) 14 _ _ _ (λ b. (tt, good-at f g)) (λ b. tt))
+  import-tells list imports f g =
+      tells-rule Any (Among Header·refusals Q) 13 _ _ _ (λ b. (tt, good-at f g))
+      (λ b. tells-rule Any (Among Header·refusals Q) 14 _ _ _ (λ b. (tt, good-at f g)) (λ b. tt))
 
   pub header-tells : (list : Bytes) (m : Message) → GoodMessage m → Tells Any (Among Header·refusals Q) (header model list m)
   unfolding header contains
@@ -111,5 +119,7 @@ module _ (model : Bytes) (Good : Field → Type 0) (Q : ℕ → Type 0) (good-at
       tells-rule Any (Among Header·refusals Q) 10 _ _ _ (λ b. (tt, good-place Model·ir-version m g)) (λ b.
       tells-rule Any (Among Header·refusals Q) 11 _ _ _ (λ b. (tt, g .0)) (λ b.
       tells-rule Any (Among Header·refusals Q) 12 _ _ _ (λ b. (tt, g .0)) (λ b.
-      tells-bind Any Any (Among Header·refusals Q) _ _ (tells-each Good Any (Among Header·refusals Q) (opsetImport model list) (λ imports f _ k. import-tells list imports f k) (allOf Model·opset-import m) (good-all Model·opset-import m g) [] tt) (λ imports _.
+      tells-bind Any Any (Among Header·refusals Q) _ _
+      (tells-each Good Any (Among Header·refusals Q) (opsetImport model list) (λ imports f _ k. import-tells list imports f k)
+      (allOf Model·opset-import m) (good-all Model·opset-import m g) [] tt) (λ imports _.
       tells-rule Any (Among Header·refusals Q) 15 _ _ _ (λ b. (tt, good-place Model·functions m g)) (λ b. tt)))))

@@ -46,7 +46,9 @@ module _ (test other : Field → Bool) (apart : (f : Field) → T (test f) → T
       later : (u : Field → Bool) → Span f p → Spans (keep u fs) p → ⊥
       later u a b = let i = spans-within (f .next) hi (keep u fs) (keep-ordered u (f .next) hi fs (o .4)) p b in omega arith
 
-      go : (b c : Bool) → test f ≡ b → other f ≡ c → Spans (elim b [ true ↦ f ∷ keep test fs | false ↦ keep test fs ]) p → Spans (elim c [ true ↦ f ∷ keep other fs | false ↦ keep other fs ]) p → (Spans (keep test fs) p → Spans (keep other fs) p → ⊥) → ⊥
+      go : (b c : Bool) → test f ≡ b → other f ≡ c → Spans (elim b [ true ↦ f ∷ keep test fs | false ↦ keep test fs ]) p
+          → Spans (elim c [ true ↦ f ∷ keep other fs | false ↦ keep other fs ]) p → (Spans (keep test fs) p → Spans (keep other fs) p → ⊥)
+          → ⊥
       go true true e e′ s t ih = apart f (true-T (test f) e) (true-T (other f) e′)
       go true false e e′ (inl a) t ih = later other a t
       go true false e e′ (inr a) t ih = ih a t
@@ -110,11 +112,14 @@ tidy-one Q a h = (((λ p x r. r), tt), λ p r. go p r)
     go p (inr x) = absurd x
 
 -- a script for each field, each of which reads only inside its field
-tidy-flat : (k : Field → List Action) → ((f : Field) → f .place < f .start → f .start ≤ f .next → Tidy (Span f) (k f)) → (lo hi : ℕ) (fs : List Field) → Ordered lo hi fs → Tidy (Spans fs) (flatMap k fs)
+tidy-flat : (k : Field → List Action) → ((f : Field) → f .place < f .start → f .start ≤ f .next → Tidy (Span f) (k f))
+    → (lo hi : ℕ) (fs : List Field) → Ordered lo hi fs
+    → Tidy (Spans fs) (flatMap k fs)
 unfolding flatMap
 tidy-flat k one lo hi [] o = (tt, λ p r. r)
 tidy-flat k one lo hi (f ∷ fs) o =
-    tidy-append (Span f) (Spans fs) (Spans (f ∷ fs)) (k f) (flatMap k fs) (λ p a b. let h = spans-within (f .next) hi fs (o .4) p b in omega arith) (λ p a. inl a) (λ p a. inr a) (one f (o .1) (o .2)) (tidy-flat k one (f .next) hi fs (o .4))
+    tidy-append (Span f) (Spans fs) (Spans (f ∷ fs)) (k f) (flatMap k fs) (λ p a b. let h = spans-within (f .next) hi fs (o .4) p b in omega arith)
+    (λ p a. inl a) (λ p a. inr a) (one f (o .1) (o .2)) (tidy-flat k one (f .next) hi fs (o .4))
 
 map-flat : (k : Field → Action) (fs : List Field) → map k fs ≡ flatMap (λ f. k f ∷ []) fs
 unfolding flatMap
@@ -159,7 +164,11 @@ module _ (model : Bytes) where
       x : Name
       x = nameOf model Tensor·name (message model f)
 
-      go : (b : Bool) → ((w : List Bytes) → OnlyBinds (initializers model w fs)) → OnlyBinds (elim b [ true ↦ initializers model (keep (λ y. not (same (x .bytes) y)) waiting) fs | false ↦ binds x ∷ initializers model waiting fs ])
+      go : (b : Bool) → ((w : List Bytes) → OnlyBinds (initializers model w fs))
+          → OnlyBinds (elim b [
+            | true ↦ initializers model (keep (λ y. not (same (x .bytes) y)) waiting) fs
+            | false ↦ binds x ∷ initializers model waiting fs
+          ])
       go true ih = ih _
       go false ih = ((λ p a. a), ih waiting)
 
@@ -175,19 +184,23 @@ module _ (model : Bytes) where
 
   pub bodies-ordered : (n : Field) → Ordered (n .start) (n .next) (bodiesIn model n)
   unfolding bodiesIn bodiesOf
-  bodies-ordered n = ordered-flat (λ a. bodiesOf (message model a)) (λ a. keep-ordered _ (a .start) (a .next) (message model a .fields) (message-ordered model a)) (n .start) (n .next) (allOf Node·attribute (message model n)) (all-of-ordered model Node·attribute n)
+  bodies-ordered n =
+      ordered-flat (λ a. bodiesOf (message model a)) (λ a. keep-ordered _ (a .start) (a .next) (message model a .fields) (message-ordered model a))
+      (n .start) (n .next) (allOf Node·attribute (message model n)) (all-of-ordered model Node·attribute n)
 
   tidy-attribute : (a : Field) → a .place < a .start → a .start ≤ a .next → Tidy (Span a) (map visits (bodiesOf (message model a)))
   unfolding bodiesOf
   tidy-attribute a h k = rw (map-flat visits)
       (let o = keep-ordered _ (a .start) (a .next) (message model a .fields) (message-ordered model a) in
-      let t = tidy-flat (λ b. visits b ∷ []) (λ b h k. tidy-one (Span b) (visits b) (λ p i. let j : Within b p = i in (omega arith, omega arith))) (a .start) (a .next) (bodiesOf (message model a)) o in
+      let t = tidy-flat (λ b. visits b ∷ []) (λ b h k. tidy-one (Span b) (visits b) (λ p i. let j : Within b p = i in (omega arith, omega arith)))
+      (a .start) (a .next) (bodiesOf (message model a)) o in
       (t .0, λ p r. let i = spans-within (a .start) (a .next) (bodiesOf (message model a)) o p (t .1 p r) in (omega arith, omega arith)))
 
   tidy-bodies : (n : Field) → Tidy (Spans (allOf Node·attribute (message model n))) (map visits (bodiesIn model n))
   unfolding bodiesIn
   tidy-bodies n = rw (map-flatMap visits (λ a. bodiesOf (message model a)))
-      (tidy-flat (λ a. map visits (bodiesOf (message model a))) tidy-attribute (n .start) (n .next) (allOf Node·attribute (message model n)) (all-of-ordered model Node·attribute n))
+      (tidy-flat (λ a. map visits (bodiesOf (message model a))) tidy-attribute (n .start) (n .next) (allOf Node·attribute (message model n))
+      (all-of-ordered model Node·attribute n))
 
   -- a graph's output is read at its name's tag, or at its own
   place-within : (n : ℕ) (f : Field) → f .place < f .start → f .start ≤ f .next → Span f (placeOf n (message model f))
@@ -200,7 +213,9 @@ module _ (model : Bytes) where
 
   tidy-output : (f : Field) → f .place < f .start → f .start ≤ f .next → Tidy (Span f) (reads (nameOf model ValueInfo·name (message model f)) ∷ [])
   unfolding nameOf
-  tidy-output f h k = tidy-one (Span f) (reads (nameOf model ValueInfo·name (message model f))) (λ p e. let i = place-within ValueInfo·name f h k in let e′ : p ≡ placeOf ValueInfo·name (message model f) = e in rw e′ i)
+  tidy-output f h k =
+      tidy-one (Span f) (reads (nameOf model ValueInfo·name (message model f)))
+      (λ p e. let i = place-within ValueInfo·name f h k in let e′ : p ≡ placeOf ValueInfo·name (message model f) = e in rw e′ i)
 
   parts-within : (n : ℕ) (f : Field) (p : ℕ) → Spans (allOf n (message model f)) p → Within f p
   parts-within n f p s = spans-within (f .start) (f .next) (allOf n (message model f)) (all-of-ordered model n f) p s
@@ -208,20 +223,26 @@ module _ (model : Bytes) where
   -- parts of a message with two numbers
   parts-apart : (n m : ℕ) (f : Field) → (n ≡ m → ⊥) → (p : ℕ) → Spans (allOf n (message model f)) p → Spans (allOf m (message model f)) p → ⊥
   unfolding allOf
-  parts-apart n m f d p s t = spans-apart (λ g. eqb n (g .number)) (λ g. eqb m (g .number)) (λ g a b. d (eqb→eq n (g .number) a ∙ sym (eqb→eq m (g .number) b))) (f .start) (f .next) (message model f .fields) (message-ordered model f) p s t
+  parts-apart n m f d p s t =
+      spans-apart (λ g. eqb n (g .number)) (λ g. eqb m (g .number)) (λ g a b. d (eqb→eq n (g .number) a ∙ sym (eqb→eq m (g .number) b))) (f .start)
+      (f .next) (message model f .fields) (message-ordered model f) p s t
 
   tidy-node : (f : Field) → f .place < f .start → f .start ≤ f .next → Tidy (Span f) (nodeScript model f)
   unfolding nodeScript
   tidy-node f h k =
       let m = message model f in
       let in-f : (p : ℕ) → Within f p → Span f p = λ p i. (omega arith, i .1) in
-      tidy-append (Span f) Never (Span f) (flatMap (λ i. unlessEmpty reads (nameIn model i)) (allOf Node·input m) ++ map visits (bodiesIn model f)) (flatMap (λ o. unlessEmpty binds (nameIn model o)) (allOf Node·output m))
+      tidy-append (Span f) Never (Span f) (flatMap (λ i. unlessEmpty reads (nameIn model i)) (allOf Node·input m) ++ map visits (bodiesIn model f))
+      (flatMap (λ o. unlessEmpty binds (nameIn model o)) (allOf Node·output m))
       (λ p a b. b) (λ p a. a) (λ p a. absurd a)
-      (tidy-append (Spans (allOf Node·input m)) (Spans (allOf Node·attribute m)) (Span f) (flatMap (λ i. unlessEmpty reads (nameIn model i)) (allOf Node·input m)) (map visits (bodiesIn model f))
+      (tidy-append (Spans (allOf Node·input m)) (Spans (allOf Node·attribute m)) (Span f)
+      (flatMap (λ i. unlessEmpty reads (nameIn model i)) (allOf Node·input m)) (map visits (bodiesIn model f))
       (parts-apart Node·input Node·attribute f (λ e. omega arith)) (λ p a. in-f p (parts-within Node·input f p a)) (λ p a. in-f p (parts-within Node·attribute f p a))
       (tidy-flat (λ i. unlessEmpty reads (nameIn model i)) tidy-input (f .start) (f .next) (allOf Node·input m) (all-of-ordered model Node·input f))
       (tidy-bodies f))
-      (tidy-binds (flatMap (λ o. unlessEmpty binds (nameIn model o)) (allOf Node·output m)) (all-flat Any (λ a. (p : ℕ) → At a p → ⊥) (λ o. unlessEmpty binds (nameIn model o)) (λ o _. binds-unless (nameIn model o)) (allOf Node·output m) (any-all (allOf Node·output m))))
+      (tidy-binds (flatMap (λ o. unlessEmpty binds (nameIn model o)) (allOf Node·output m))
+      (all-flat Any (λ a. (p : ℕ) → At a p → ⊥) (λ o. unlessEmpty binds (nameIn model o)) (λ o _. binds-unless (nameIn model o)) (allOf Node·output m)
+      (any-all (allOf Node·output m))))
 
   pub tidy-script : (main : Bool) (f : Field) → Tidy (Within f) (script model main f)
   unfolding script
@@ -229,10 +250,18 @@ module _ (model : Bytes) where
       let g = message model f in
       let waiting = elim main as (λ _. List Bytes) [ true ↦ inputsOf model g | false ↦ [] ] in
       let named : Field → Name = λ i. nameOf model ValueInfo·name (message model i) in
-      tidy-append (Spans (allOf Graph·node g)) (Spans (allOf Graph·output g)) (Within f) (map (λ i. binds (named i)) (allOf Graph·input g) ++ initializers model waiting (allOf Graph·initializer g) ++ flatMap (nodeScript model) (allOf Graph·node g)) (map (λ o. reads (named o)) (allOf Graph·output g))
+      tidy-append (Spans (allOf Graph·node g)) (Spans (allOf Graph·output g)) (Within f)
+      (map (λ i. binds (named i)) (allOf Graph·input g) ++ initializers model waiting (allOf Graph·initializer g)
+      ++ flatMap (nodeScript model) (allOf Graph·node g)) (map (λ o. reads (named o)) (allOf Graph·output g))
       (parts-apart Graph·node Graph·output f (λ e. omega arith)) (parts-within Graph·node f) (parts-within Graph·output f)
-      (tidy-append Never (Spans (allOf Graph·node g)) (Spans (allOf Graph·node g)) (map (λ i. binds (named i)) (allOf Graph·input g) ++ initializers model waiting (allOf Graph·initializer g)) (flatMap (nodeScript model) (allOf Graph·node g))
+      (tidy-append Never (Spans (allOf Graph·node g)) (Spans (allOf Graph·node g))
+      (map (λ i. binds (named i)) (allOf Graph·input g) ++ initializers model waiting (allOf Graph·initializer g))
+      (flatMap (nodeScript model) (allOf Graph·node g))
       (λ p a b. a) (λ p a. absurd a) (λ p a. a)
-      (tidy-binds (map (λ i. binds (named i)) (allOf Graph·input g) ++ initializers model waiting (allOf Graph·initializer g)) (all-append (λ a. (p : ℕ) → At a p → ⊥) (map (λ i. binds (named i)) (allOf Graph·input g)) (initializers model waiting (allOf Graph·initializer g)) (all-mapped Any (λ a. (p : ℕ) → At a p → ⊥) (λ i. binds (named i)) (λ i _ p a. a) (allOf Graph·input g) (any-all (allOf Graph·input g))) (binds-initializers waiting (allOf Graph·initializer g))))
+      (tidy-binds (map (λ i. binds (named i)) (allOf Graph·input g) ++ initializers model waiting (allOf Graph·initializer g))
+      (all-append (λ a. (p : ℕ) → At a p → ⊥) (map (λ i. binds (named i)) (allOf Graph·input g))
+      (initializers model waiting (allOf Graph·initializer g))
+      (all-mapped Any (λ a. (p : ℕ) → At a p → ⊥) (λ i. binds (named i)) (λ i _ p a. a) (allOf Graph·input g) (any-all (allOf Graph·input g)))
+      (binds-initializers waiting (allOf Graph·initializer g))))
       (tidy-flat (nodeScript model) tidy-node (f .start) (f .next) (allOf Graph·node g) (all-of-ordered model Graph·node f)))
       (rw (map-flat (λ o. reads (named o))) (tidy-flat (λ o. reads (named o) ∷ []) tidy-output (f .start) (f .next) (allOf Graph·output g) (all-of-ordered model Graph·output f)))

@@ -36,14 +36,15 @@ absent-cons x n l e a m k q = go (List·Memᴰ·cases-cons k)
     go (inl p) = true≢false (sym (same-true x) ∙ ap (λ (u : Bytes). same x u) (sym q ∙ ap (λ (u : Name). u .bytes) p) ∙ e)
     go (inr k) = a m k q
 
-find-newest : (x : Bytes) (names : List Name) (p : ℕ) → find x names ≡ some p → (newer older : List Name) × (n : Name) × (names ≡ newer ++ (n ∷ older)) × (n .bytes ≡ x) × (n .place ≡ p) × Absent x newer
+find-newest : (x : Bytes) (names : List Name) (p : ℕ) → find x names ≡ some p
+    → (newer older : List Name) × (n : Name) × (names ≡ newer ++ (n ∷ older)) × (n .bytes ≡ x) × (n .place ≡ p) × Absent x newer
 unfolding find
 find-newest x [] p e = absurd (some-no-none p (sym e))
 find-newest x (n ∷ l) p e = go (same x (n .bytes)) refl e (find-newest x l p)
   where
-    go : (b : Bool) → same x (n .bytes) ≡ b → _≡_ {A = Option ℕ} (elim b [ true ↦ some (n .place) | false ↦ find x l ]) (some p) →
-        (find x l ≡ some p → (newer older : List Name) × (m : Name) × (l ≡ newer ++ (m ∷ older)) × (m .bytes ≡ x) × (m .place ≡ p) × Absent x newer) →
-        (newer older : List Name) × (m : Name) × (n ∷ l ≡ newer ++ (m ∷ older)) × (m .bytes ≡ x) × (m .place ≡ p) × Absent x newer
+    go : (b : Bool) → same x (n .bytes) ≡ b → _≡_ {A = Option ℕ} (elim b [ true ↦ some (n .place) | false ↦ find x l ]) (some p)
+        → (find x l ≡ some p → (newer older : List Name) × (m : Name) × (l ≡ newer ++ (m ∷ older)) × (m .bytes ≡ x) × (m .place ≡ p) × Absent x newer)
+        → (newer older : List Name) × (m : Name) × (n ∷ l ≡ newer ++ (m ∷ older)) × (m .bytes ≡ x) × (m .place ≡ p) × Absent x newer
     go true s q ih = ([], l, n, refl, sym (same→eq x (n .bytes) (true-T (same x (n .bytes)) s)), some-same (n .place) p q, λ m k. absurd (List·Memᴰ·not-nil k))
     go false s q ih = let h = ih q in (n ∷ h .0, h .1, h .2, ap (λ (k : List Name). n ∷ k) (h .3), h .4, h .5, absent-cons x n (h .0) s (h .6))
 
@@ -98,11 +99,14 @@ name-first : (model : Bytes) (n : ℕ) (m : Message) (f : Field) → firstOf n m
 unfolding nameOf nameIn bytesOf placeOf
 name-first model n m f e = go (firstOf n m) e
   where
-    go : (o : Option Field) → o ≡ some f → _≡_ {A = Name} (record { bytes = elim o [ none ↦ [] | some g ↦ text model g ]; place = elim o [ none ↦ m .place | some g ↦ g .place ] }) (record { bytes = text model f; place = f .place })
+    go : (o : Option Field) → o ≡ some f
+        → _≡_ {A = Name} (record { bytes = elim o [ none ↦ [] | some g ↦ text model g ]; place = elim o [ none ↦ m .place | some g ↦ g .place ] })
+        (record { bytes = text model f; place = f .place })
     go none q = absurd (some-no-none f (sym q))
     go (some g) q = ap (λ (h : Field). record { bytes = text model h; place = h .place }) (some-same g f q)
 
-inputs-exactly : (model : Bytes) (g : Message) (x : Bytes) → List·Memᴰ x (inputsOf model g) ↔ ((f : Field) × List·Memᴰ f (allOf Graph·input g) × (nameOf model ValueInfo·name (message model f) .bytes ≡ x))
+inputs-exactly : (model : Bytes) (g : Message) (x : Bytes)
+    → List·Memᴰ x (inputsOf model g) ↔ ((f : Field) × List·Memᴰ f (allOf Graph·input g) × (nameOf model ValueInfo·name (message model f) .bytes ≡ x))
 unfolding inputsOf nameOf
 inputs-exactly model g x = (
   (λ m. Memᴰ·of-map (λ f. bytesOf model ValueInfo·name (message model f)) (allOf Graph·input g) m),
@@ -119,7 +123,9 @@ sharedTrue = record {
   fields-apart = message-ordered;
   all-of = λ n m f. kept-by (λ g. g .number ≡ n) (λ g. eqb n (g .number)) (m .fields) f (number-test n f);
   all-apart = all-of-ordered;
-  bodies-of = λ a f. kept-by (λ g. (g .number ≡ Attribute·g) ⊎ (g .number ≡ Attribute·graphs)) (λ g. eqb Attribute·g (g .number) || eqb Attribute·graphs (g .number)) (a .fields) f (body-test f);
+  bodies-of = λ a f.
+      kept-by (λ g. (g .number ≡ Attribute·g) ⊎ (g .number ≡ Attribute·graphs)) (λ g. eqb Attribute·g (g .number) || eqb Attribute·graphs (g .number))
+      (a .fields) f (body-test f);
   bodies-apart = λ model f. keep-ordered _ (f .start) (f .next) (message model f .fields) (message-ordered model f);
   text-reads = text-at;
   text-ends = text-length;

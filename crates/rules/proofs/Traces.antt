@@ -12,7 +12,8 @@ use Rattle.wire.specs.Bytes.{Bytes}
 use Rattle.wire.specs.Message.{firstOf, message, whole}
 use Rattle.schema.specs.Numbers.{Model·graph}
 use Rattle.rules.specs.Names.{Name}
-use Rattle.rules.specs.Runner.{Action, binds, reads, visits, script, Read, binding, reading, Run, Ran, begin, find, withBound, withRead, bind, read, unchosen, choose, forget, perform, runGraph, runTo, run}
+use Rattle.rules.specs.Runner.{Action, binds, reads, visits, script, Read, binding, reading, Run, Ran, begin, find}
+use Rattle.rules.specs.Runner.{withBound, withRead, bind, read, unchosen, choose, forget, perform, runGraph, runTo, run}
 use Rattle.rules.proofs.Visits.{visit-once}
 use Rattle.rules.proofs.Scripts.{Within, At, Reach, Scattered, Tidy, tidy-script}
 
@@ -44,7 +45,9 @@ keeps-weaken P Q t (pass e) h k = (k .0, k .1, λ x m. go x (k .2 x m))
 keeps-weaken P Q t (fail s) h k = tt
 
 -- one action, then others that read elsewhere
-keeps-bind : (P Q : ℕ → Type 0) (t : List Read) (o : Ran) (g : Run → Ran) → Clear Q t → ((p : ℕ) → P p → Q p → ⊥) → Keeps P t o → ((s : Run) → Ready Q s → Keeps Q (s .trace) (g s)) → Keeps (λ p. P p ⊎ Q p) t (o >>= g)
+keeps-bind : (P Q : ℕ → Type 0) (t : List Read) (o : Ran) (g : Run → Ran)
+    → Clear Q t → ((p : ℕ) → P p → Q p → ⊥) → Keeps P t o → ((s : Run) → Ready Q s → Keeps Q (s .trace) (g s))
+    → Keeps (λ p. P p ⊎ Q p) t (o >>= g)
 unfolding _>>=_
 keeps-bind P Q t (fail e) g c d k h = tt
 keeps-bind P Q t (pass s) g c d k h = last (g s) (h s (k .0, k .1, λ x m q. clear x q (k .2 x m)))
@@ -117,7 +120,8 @@ module _ (model : Bytes) where
   keeps-graph : (bound : ℕ) (main : Bool) (r : Run) (f : Field) → Ready (Within f) r → Keeps (Within f) (r .trace) (runGraph model bound main r f)
   unfolding runGraph
   keeps-graph zero main r f h = (h .0, h .1, λ x m. inl m)
-  keeps-graph (suc bound) main r f h = keeps-tidy (runGraph model bound false) (λ r f h. keeps-graph bound false r f h) (Within f) (script model main f) (tidy-script model main f) r h
+  keeps-graph (suc bound) main r f h =
+      keeps-tidy (runGraph model bound false) (λ r f h. keeps-graph bound false r f h) (Within f) (script model main f) (tidy-script model main f) r h
 
   -- of the run with no choices
   pub functional : (e : Run) → run model [] ≡ pass e → Functional (e .trace)

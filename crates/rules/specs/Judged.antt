@@ -8,7 +8,10 @@ use Rattle.wire.specs.Outcome.{pass, Judged, refused}
 use Rattle.wire.specs.Bytes.{Bytes}
 use Rattle.wire.specs.Notation.{hex, ascii}
 use Rattle.operators.specs.Samples.{L}
-use Rattle.schema.specs.Numbers.{Model·ir-version, Model·graph, Model·opset-import, OperatorSetId·domain, OperatorSetId·version, Graph·node, Graph·name, Graph·initializer, Graph·input, Graph·output, Graph·sparse-initializer, Node·input, Node·output, Node·name, Node·op-type, Node·attribute, Node·domain, Attribute·name, Tensor·name, ValueInfo·name, ValueInfo·type, TypeProto·tensor, TensorType·elem-type, TensorType·shape, Shape·dim, Dimension·dim-param}
+use Rattle.schema.specs.Numbers.{Model·ir-version, Model·graph, Model·opset-import, OperatorSetId·domain, OperatorSetId·version, Graph·node}
+use Rattle.schema.specs.Numbers.{Graph·name, Graph·initializer, Graph·input, Graph·output, Graph·sparse-initializer, Node·input, Node·output, Node·name}
+use Rattle.schema.specs.Numbers.{Node·op-type, Node·attribute, Node·domain, Attribute·name, Tensor·name, ValueInfo·name, ValueInfo·type}
+use Rattle.schema.specs.Numbers.{TypeProto·tensor, TensorType·elem-type, TensorType·shape, Shape·dim, Dimension·dim-param}
 use Rattle.rules.specs.Models.{held, counted, value, tensor, body, node, graph, model, Models·computes}
 use Rattle.rules.specs.Verdict.{Counts, verdict, Verdict·computes}
 

@@ -7,7 +7,10 @@ use lib.ListN.{length}
 use lib.Dec.{ltb}
 use Rattle.wire.specs.Bytes.{Bytes}
 use Rattle.wire.specs.Notation.{hex, ascii, words, Notation·computes}
-use Rattle.schema.specs.Numbers.{Model·ir-version, Model·graph, Model·opset-import, OperatorSetId·version, Graph·node, Graph·name, Graph·initializer, Graph·input, Graph·output, Node·input, Node·output, Node·op-type, Node·attribute, Attribute·name, Attribute·g, Tensor·name, Tensor·data-type, ValueInfo·name, ValueInfo·type, TypeProto·tensor, TensorType·elem-type, TensorType·shape}
+use Rattle.schema.specs.Numbers.{Model·ir-version, Model·graph, Model·opset-import, OperatorSetId·version, Graph·node}
+use Rattle.schema.specs.Numbers.{Graph·name, Graph·initializer, Graph·input, Graph·output, Node·input, Node·output}
+use Rattle.schema.specs.Numbers.{Node·op-type, Node·attribute, Attribute·name, Attribute·g, Tensor·name, Tensor·data-type}
+use Rattle.schema.specs.Numbers.{ValueInfo·name, ValueInfo·type, TypeProto·tensor, TensorType·elem-type, TensorType·shape}
 
 -- A length of one byte or two.
 unfoldable pub size : ℕ → Bytes

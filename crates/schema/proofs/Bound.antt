@@ -44,8 +44,10 @@ module _ (model : Bytes) (inner inner′ : Kind → (depth end pos : ℕ) → Ru
       bind-agrees (λ t. (t .place ≡ pos) × (pos < t .next)) (AtTag pos) (tag model end pos) _ _ (tag-tells model end pos) (λ t at.
       seq-agrees (refuse 4 at: pos when: _) _ _ (seq-agrees (refuse 5 at: pos when: _) _ _
       (bind-agrees (Follows t end) (AtTag (t .place)) (value model t end) _ _ (value-tells model t end) (λ f on.
-      ap (λ (o : Rule). o >>= λ (_ : Unit {0}). rest (take-up (slotOf (t .number) (rowOf kind (t .number))) slots) (f .next)) (contents-agree depth (kindOf (rowOf kind (t .number))) f (omega arith) (omega arith))
-      ∙ ap (λ (r : Rule). contents model inner′ depth (kindOf (rowOf kind (t .number))) f >>= λ (_ : Unit {0}). r) (onward (take-up (slotOf (t .number) (rowOf kind (t .number))) slots) (f .next) (omega arith))))))
+      ap (λ (o : Rule). o >>= λ (_ : Unit {0}). rest (take-up (slotOf (t .number) (rowOf kind (t .number))) slots) (f .next))
+      (contents-agree depth (kindOf (rowOf kind (t .number))) f (omega arith) (omega arith))
+      ∙ ap (λ (r : Rule). contents model inner′ depth (kindOf (rowOf kind (t .number))) f >>= λ (_ : Unit {0}). r)
+      (onward (take-up (slotOf (t .number) (rowOf kind (t .number))) slots) (f .next) (omega arith))))))
 
 module _ (model : Bytes) where
   walk-end : (n : ℕ) (kind : Kind) (depth : ℕ) (slots : List ℕ) (end pos : ℕ) → end ≤ pos → walk model n kind depth slots end pos ≡ pass tt
@@ -53,16 +55,21 @@ module _ (model : Bytes) where
   walk-end zero kind depth slots end pos h = refl
   walk-end (suc n) kind depth slots end pos h = rw (T-true (leb end pos) (le→leb end pos h), walk) refl
 
-  walk-agree : (n m : ℕ) (kind : Kind) (depth : ℕ) (slots : List ℕ) (end pos : ℕ) → end ≤ pos + n → end ≤ pos + m → walk model n kind depth slots end pos ≡ walk model m kind depth slots end pos
+  walk-agree : (n m : ℕ) (kind : Kind) (depth : ℕ) (slots : List ℕ) (end pos : ℕ)
+      → end ≤ pos + n → end ≤ pos + m
+      → walk model n kind depth slots end pos ≡ walk model m kind depth slots end pos
   unfolding walk
   walk-agree zero zero kind depth slots end pos h k = refl
   walk-agree zero (suc m) kind depth slots end pos h k = sym (walk-end (suc m) kind depth slots end pos (omega arith))
   walk-agree (suc n) zero kind depth slots end pos h k = walk-end (suc n) kind depth slots end pos (omega arith)
   walk-agree (suc n) (suc m) kind depth slots end pos h k =
       ap (λ (r : Rule). elim (leb end pos) [ true ↦ pass tt | false ↦ r ])
-      (turn-agrees model _ _ _ _ end pos (λ o d e p a b. walk-agree n m o d [] e p (omega arith) (omega arith)) (λ more p a. walk-agree n m kind depth more end p (omega arith) (omega arith)) kind depth slots)
+      (turn-agrees model _ _ _ _ end pos (λ o d e p a b. walk-agree n m o d [] e p (omega arith) (omega arith))
+      (λ more p a. walk-agree n m kind depth more end p (omega arith) (omega arith)) kind depth slots)
 
-  pub walk-bound : (bound : ℕ) (kind : Kind) (depth : ℕ) (slots : List ℕ) (end pos : ℕ) → end ≤ pos + bound → walk model bound kind depth slots end pos ≡ walked model kind depth slots end pos
+  pub walk-bound : (bound : ℕ) (kind : Kind) (depth : ℕ) (slots : List ℕ) (end pos : ℕ)
+      → end ≤ pos + bound
+      → walk model bound kind depth slots end pos ≡ walked model kind depth slots end pos
   unfolding walked
   walk-bound bound kind depth slots end pos h = walk-agree bound (end - pos) kind depth slots end pos h (omega arith)
 
@@ -80,4 +87,5 @@ module _ (model : Bytes) where
   walked-step kind depth slots end pos h =
       sym (walk-bound (suc (end - pos)) kind depth slots end pos (omega arith))
       ∙ rw (T-false (leb end pos) (no-leb h), walk)
-      (turn-agrees model _ _ _ _ end pos (λ k d e p a b. walk-bound (end - pos) k d [] e p (omega arith)) (λ more p a. walk-bound (end - pos) kind depth more end p (omega arith)) kind depth slots)
+      (turn-agrees model _ _ _ _ end pos (λ k d e p a b. walk-bound (end - pos) k d [] e p (omega arith))
+      (λ more p a. walk-bound (end - pos) kind depth more end p (omega arith)) kind depth slots)

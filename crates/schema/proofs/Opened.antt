@@ -27,7 +27,9 @@ module _ (model : Bytes) where
   abbrev pub Opens : Kind → (depth : ℕ) → Field → Type 0
   Opens kind depth f = If (Sound depth f) (kindOf (rowOf kind (f .number)))
 
-  contents-passed : (n depth : ℕ) (o : Option Kind) (f : Field) → f .next ≤ f .start + n → contents model (λ k d e p. walk model n k d [] e p) depth o f ≡ pass tt → If (Sound depth f) o
+  contents-passed : (n depth : ℕ) (o : Option Kind) (f : Field) → f .next ≤ f .start + n
+      → contents model (λ k d e p. walk model n k d [] e p) depth o f ≡ pass tt
+      → If (Sound depth f) o
   unfolding contents
   contents-passed n depth none f h e = tt
   contents-passed n depth (some k) f h e =
@@ -38,9 +40,9 @@ module _ (model : Bytes) where
   unfolding field _>>=_
   field-of end pos t f e e′ = rw (e, field) e′
 
-  turn-passed : (n : ℕ) (kind : Kind) (depth : ℕ) (slots : List ℕ) (end pos : ℕ) → end ≤ suc (pos + n) →
-      turn model (λ k d e p. walk model n k d [] e p) (λ more p. walk model n kind depth more end p) kind depth slots end pos ≡ pass tt →
-      (f : Field) × (field model end pos ≡ pass f) × (pos < f .next) × Opens kind depth f × ((more : List ℕ) × (walk model n kind depth more end (f .next) ≡ pass tt))
+  turn-passed : (n : ℕ) (kind : Kind) (depth : ℕ) (slots : List ℕ) (end pos : ℕ) → end ≤ suc (pos + n)
+      → turn model (λ k d e p. walk model n k d [] e p) (λ more p. walk model n kind depth more end p) kind depth slots end pos ≡ pass tt
+      → (f : Field) × (field model end pos ≡ pass f) × (pos < f .next) × Opens kind depth f × ((more : List ℕ) × (walk model n kind depth more end (f .next) ≡ pass tt))
   unfolding turn
   turn-passed n kind depth slots end pos h e =
       let a = passed-bind (tag model end pos) _ tt e in
@@ -55,14 +57,21 @@ module _ (model : Bytes) where
       let on = passed-tells (Follows t end) (AtTag (t .place)) (value model t end) f (value-tells model t end) (d .1) in
       (f, field-of end pos t f (a .1) (d .1), omega arith, rw (on .1) (contents-passed n depth (kindOf row) f (omega arith) (g .1)), (take-up (slotOf (t .number) row) slots, g .2))
 
-  walk-passed : (n : ℕ) (kind : Kind) (depth : ℕ) (slots : List ℕ) (end pos : ℕ) → end ≤ pos + n → walk model n kind depth slots end pos ≡ pass tt → All (Opens kind depth) (fieldsFrom model n end pos)
+  walk-passed : (n : ℕ) (kind : Kind) (depth : ℕ) (slots : List ℕ) (end pos : ℕ)
+      → end ≤ pos + n → walk model n kind depth slots end pos ≡ pass tt
+      → All (Opens kind depth) (fieldsFrom model n end pos)
   unfolding walk fieldsFrom
   walk-passed zero kind depth slots end pos h e = tt
   walk-passed (suc n) kind depth slots end pos h e = go (leb end pos) e (λ more p l w. walk-passed n kind depth more end p l w)
     where
-      go : (b : Bool) → elim b as (λ _. Rule) [ true ↦ pass tt | false ↦ turn model (λ k d e p. walk model n k d [] e p) (λ more p. walk model n kind depth more end p) kind depth slots end pos ] ≡ pass tt →
-          ((more : List ℕ) (p : ℕ) → end ≤ p + n → walk model n kind depth more end p ≡ pass tt → All (Opens kind depth) (fieldsFrom model n end p)) →
-          All (Opens kind depth) (elim b [ true ↦ [] | false ↦ elim (field model end pos) [ pass f ↦ f ∷ fieldsFrom model n end (f .next) | fail r ↦ [] ] ])
+      go : (b : Bool)
+          → elim b as (λ _. Rule) [
+            | true ↦ pass tt
+            | false ↦ turn model (λ k d e p. walk model n k d [] e p) (λ more p. walk model n kind depth more end p) kind depth
+                slots end pos
+          ] ≡ pass tt
+          → ((more : List ℕ) (p : ℕ) → end ≤ p + n → walk model n kind depth more end p ≡ pass tt → All (Opens kind depth) (fieldsFrom model n end p))
+          → All (Opens kind depth) (elim b [ true ↦ [] | false ↦ elim (field model end pos) [ pass f ↦ f ∷ fieldsFrom model n end (f .next) | fail r ↦ [] ] ])
       go true w ih = tt
       go false w ih = let p = turn-passed n kind depth slots end pos (omega arith) w in rw (p .1) (p .3, ih (p .4 .0) (p .0 .next) (omega arith) (p .4 .1))
 

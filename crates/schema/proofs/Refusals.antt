@@ -30,19 +30,26 @@ unfolding subset contains
 of-reader place end h r a = let e = a .1 in (contains-subset Wire·refusals FirstWalk·refusals (r .number) tt (a .0), omega arith)
 
 module _ (model : Bytes) where
-  contents-tells : (inner : Kind → (depth end pos : ℕ) → Rule) → ((k : Kind) (d e p : ℕ) → Tells Any (Before e) (inner k d e p)) → (end depth : ℕ) (o : Option Kind) (f : Field) → f .place < end → f .next ≤ end → Tells Any (Before end) (contents model inner depth o f)
+  contents-tells : (inner : Kind → (depth end pos : ℕ) → Rule) → ((k : Kind) (d e p : ℕ) → Tells Any (Before e) (inner k d e p))
+      → (end depth : ℕ) (o : Option Kind) (f : Field) → f .place < end → f .next ≤ end
+      → Tells Any (Before end) (contents model inner depth o f)
   unfolding contents contains
   contents-tells inner h end depth none f l k = tt
   contents-tells inner h end depth (some kind) f l k =
-      tells-rule Any (Before end) 6 _ _ _ (λ b. (tt, l)) (λ b. tells-weaken Any Any (Before (f .next)) (Before end) (inner kind (deeper kind depth) (f .next) (f .start)) (λ u x. tt) (λ r x. let y = x .1 in (x .0, omega arith)) (h kind (deeper kind depth) (f .next) (f .start)))
+      tells-rule Any (Before end) 6 _ _ _ (λ b. (tt, l))
+      (λ b. tells-weaken Any Any (Before (f .next)) (Before end) (inner kind (deeper kind depth) (f .next) (f .start)) (λ u x. tt)
+      (λ r x. let y = x .1 in (x .0, omega arith)) (h kind (deeper kind depth) (f .next) (f .start)))
 
   walk-tells : (n : ℕ) (kind : Kind) (depth : ℕ) (slots : List ℕ) (end pos : ℕ) → Tells Any (Before end) (walk model n kind depth slots end pos)
   unfolding walk turn contains
   walk-tells zero kind depth slots end pos = tt
   walk-tells (suc n) kind depth slots end pos = tells-if Any (Before end) (leb end pos) _ _ (λ b. tt) (λ b. let l = nleb→lt end pos b in
-      tells-bind (λ t. (t .place ≡ pos) × (pos < t .next)) Any (Before end) _ _ (tells-weaken _ _ (AtTag pos) (Before end) (tag model end pos) (λ t x. x) (of-reader pos end l) (tag-tells model end pos)) (λ t q.
+      tells-bind (λ t. (t .place ≡ pos) × (pos < t .next)) Any (Before end) _ _
+      (tells-weaken _ _ (AtTag pos) (Before end) (tag model end pos) (λ t x. x) (of-reader pos end l) (tag-tells model end pos)) (λ t q.
       tells-rule Any (Before end) 4 _ _ _ (λ b. (tt, l)) (λ b. tells-rule Any (Before end) 5 _ _ _ (λ b. (tt, l)) (λ b.
-      tells-bind (Follows t end) Any (Before end) _ _ (tells-weaken _ _ (AtTag (t .place)) (Before end) (value model t end) (λ f x. x) (of-reader (t .place) end (omega arith)) (value-tells model t end)) (λ f on.
+      tells-bind (Follows t end) Any (Before end) _ _
+      (tells-weaken _ _ (AtTag (t .place)) (Before end) (value model t end) (λ f x. x) (of-reader (t .place) end (omega arith))
+      (value-tells model t end)) (λ f on.
       tells-bind Any Any (Before end) _ _ (contents-tells _ (λ k d e p. walk-tells n k d [] e p) end depth (kindOf (rowOf kind (t .number))) f (omega arith) (omega arith)) (λ u x.
       walk-tells n kind depth _ end (f .next)))))))
 

@@ -25,7 +25,9 @@ numbers (e ∷ more) = e .0 ∷ numbers more
 row-missing : (n : ℕ) (l : List (ℕ × String × Row)) → (T (contains n (numbers l)) → ⊥) → Unknown ≡ rowIn n l
 unfolding numbers contains rowIn
 row-missing n [] h = refl
-row-missing n (e ∷ l) h = rw (T-false (eqb n (e .0)) (not-T (eqb n (e .0)) (λ t. h (or-left (eqb n (e .0)) (contains n (numbers l)) t))), rowIn) (row-missing n l (λ t. h (or-right (eqb n (e .0)) (contains n (numbers l)) t)))
+row-missing n (e ∷ l) h =
+    rw (T-false (eqb n (e .0)) (not-T (eqb n (e .0)) (λ t. h (or-left (eqb n (e .0)) (contains n (numbers l)) t))), rowIn)
+    (row-missing n l (λ t. h (or-right (eqb n (e .0)) (contains n (numbers l)) t)))
 
 -- one computed test says that a message has no other numbers than these
 pub row-unknown : (k : Kind) (l : List ℕ) (n : ℕ) → T (subset (numbers (rows k)) l) → NoneOf n l → Unknown ≡ rowOf k n

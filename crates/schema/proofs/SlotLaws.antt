@@ -47,7 +47,8 @@ unfolding allBelow rowIn slotOf
 low-in n [] t = tt
 low-in n (e ∷ l) t = go (eqb n (e .0)) refl (both (ltb (e .0) 26) (allBelow l) t) (low-in n l)
   where
-    go : (b : Bool) → eqb n (e .0) ≡ b → T (ltb (e .0) 26) × T (allBelow l) → (T (allBelow l) → LowSlot (slotOf n (rowIn n l))) → LowSlot (slotOf n (elim b [ true ↦ e .2 | false ↦ rowIn n l ]))
+    go : (b : Bool) → eqb n (e .0) ≡ b → T (ltb (e .0) 26) × T (allBelow l) → (T (allBelow l) → LowSlot (slotOf n (rowIn n l)))
+        → LowSlot (slotOf n (elim b [ true ↦ e .2 | false ↦ rowIn n l ]))
     go true q h ih = let x = eqb→eq n (e .0) (true-T (eqb n (e .0)) q) in let y = ltb→lt (e .0) 26 (h .0) in low-row n (e .2) (omega arith)
     go false q h ih = ih (h .1)
 

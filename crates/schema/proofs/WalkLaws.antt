@@ -69,8 +69,8 @@ module _ (s : Bytes) (kind : Kind) (depth : ℕ) (slots : List ℕ) (end pos : �
           unfolding step turn _>>=_ _>>_ refuse_at:_when:_
           step-inside r i = rw (e, w, n, v, i)
 
-          step-on : contents s (λ k d e p. walked s k d [] e p) depth (kindOf (rowOf kind (t .number))) f ≡ pass tt →
-              walked s kind depth (take-up (slotOf (t .number) (rowOf kind (t .number))) slots) end (f .next) ≡ step s kind depth slots end pos
+          step-on : contents s (λ k d e p. walked s k d [] e p) depth (kindOf (rowOf kind (t .number))) f ≡ pass tt
+              → walked s kind depth (take-up (slotOf (t .number) (rowOf kind (t .number))) slots) end (f .next) ≡ step s kind depth slots end pos
           unfolding step turn _>>=_ _>>_ refuse_at:_when:_
           step-on i = rw (e, w, n, v, i)
 
@@ -143,7 +143,11 @@ module _ {s : Bytes} {kind : Kind} {depth start end : ℕ} {seen : List ℕ} {c 
       module _ {d : Bool} (k : d ≡ takenIn seen slot) (l : d ≡ false) (a : FieldAnswer) (got : fieldSays a ≡ withCursor (c .end) (value s t (c .end))) where
         pub walk-value : {r : Refusal} (x : WalkAnswer) → a ≡ field-answer.Refused r → walkSays x ≡ silent (fieldSays a) → walkSays x ≡ walked s kind depth [] end start
         unfolding silent fieldSays _>>=_
-        walk-value x e w = w ∙ rw e (step-value s kind depth (g .going .slots) end (c .at) t (g .read) fitted (sym repeated ∙ sym k ∙ l) _ (with-cursor-refused end (value s t end) (says fieldSays (rw (g .going .ends) at got) e)) ∙ on (g .going) (g .here))
+        walk-value x e w =
+            w
+            ∙ rw e (step-value s kind depth (g .going .slots) end (c .at) t (g .read) fitted (sym repeated ∙ sym k ∙ l) _
+            (with-cursor-refused end (value s t end) (says fieldSays (rw (g .going .ends) at got) e))
+            ∙ on (g .going) (g .here))
 
         pub walk-turned : {f : Field} {next : Cursor} → a ≡ field-answer.Read f next → Turned s kind depth start end seen c row slot f next
         unfolding fieldSays
@@ -151,7 +155,17 @@ module _ {s : Bytes} {kind : Kind} {depth start end : ℕ} {seen : List ℕ} {c 
             let o = with-cursor-read end (value s t end) (says fieldSays (rw (g .going .ends) at got) e) in
             let x = passed-tells (λ t. (t .place ≡ c .at) × (c .at < t .next)) (AtTag (c .at)) (tag s end (c .at)) t (tag-tells s end (c .at)) (g .read) in
             let y = passed-tells (Follows t end) (AtTag (t .place)) (value s t end) f (value-tells s t end) (o .0) in
-            record { t = t; tagged = g; fitting = fitted; slotted = in-slot; free = sym repeated ∙ sym k ∙ l; found = o .0; onto = o .1; placed = omega arith; inside = (omega arith, omega arith, omega arith) }
+            record {
+              t = t;
+              tagged = g;
+              fitting = fitted;
+              slotted = in-slot;
+              free = sym repeated ∙ sym k ∙ l;
+              found = o .0;
+              onto = o .1;
+              placed = omega arith;
+              inside = (omega arith, omega arith, omega arith);
+            }
 
   module _ {row : Row} {slot : ℕ} {f : Field} {next : Cursor} (u : Turned s kind depth start end seen c row slot f next) where
     -- what is left is less, and so is what a walk of the contents has before it
@@ -166,7 +180,9 @@ module _ {s : Bytes} {kind : Kind} {depth start end : ℕ} {seen : List ℕ} {c 
 
     stops : (r : Refusal) → inner ≡ fail r → fail r ≡ walked s kind depth [] end start
     unfolding inner
-    stops r z = step-inside s kind depth (u .tagged .going .slots) end (c .at) (u .t) (u .tagged .read) (u .fitting) (u .free) f (u .found) r z ∙ on (u .tagged .going) (u .tagged .here)
+    stops r z =
+        step-inside s kind depth (u .tagged .going .slots) end (c .at) (u .t) (u .tagged .read) (u .fitting) (u .free) f (u .found) r z
+        ∙ on (u .tagged .going) (u .tagged .here)
 
     goes : inner ≡ pass tt → Going s kind depth start end (set seen slot 1) next
     unfolding inner
@@ -179,7 +195,8 @@ module _ {s : Bytes} {kind : Kind} {depth start end : ℕ} {seen : List ℕ} {c 
           past = omega arith;
           slots = take-up (slotOf (u .t .number) (rowOf kind (u .t .number))) (u .tagged .going .slots);
           taking = slots-more slot _ (u .tagged .going .taking) (u .slotted) (low-slot kind (u .t .number));
-          whole = rw n (step-on s kind depth (u .tagged .going .slots) end (c .at) (u .t) (u .tagged .read) (u .fitting) (u .free) f (u .found) z ∙ on (u .tagged .going) (u .tagged .here));
+          whole = rw n (step-on s kind depth (u .tagged .going .slots) end (c .at) (u .t) (u .tagged .read) (u .fitting) (u .free) f (u .found) z
+              ∙ on (u .tagged .going) (u .tagged .here));
         }
 
     module _ (x : Content) (e : contentSays x ≡ kindOf row) where

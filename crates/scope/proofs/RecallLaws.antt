@@ -25,7 +25,8 @@ use Rattle.scope.specs.declared.remembered.Index.{Index}
 use Rattle.scope.proofs.ScopeLaws.{Searching}
 
 -- what is remembered is the scope
-recalled : {model : Bytes} {seed : ℕ} {cells extra : List ℕ} → Recalls model seed cells extra → (x : Bytes) (i : ℕ) → i ≤ known extra → member x (namesIn model (tableOf extra) i) ≡ visible x (scopeIn model cells i)
+recalled : {model : Bytes} {seed : ℕ} {cells extra : List ℕ} → Recalls model seed cells extra → (x : Bytes) (i : ℕ) → i ≤ known extra
+    → member x (namesIn model (tableOf extra) i) ≡ visible x (scopeIn model cells i)
 unfolding member visible namesIn scopeIn
 recalled m x zero h = refl
 recalled {model} {seed} {cells} {extra} m x (suc i) h =
@@ -33,12 +34,17 @@ recalled {model} {seed} {cells} {extra} m x (suc i) h =
     ∙ ap (λ (t : Bool). same x (nameAt model (getD cells i 0) .bytes) || t) (recalled m x i (omega arith))
 
 -- the search after the names that are not remembered: r is what is recalled
-pub recall-ends : {model : Bytes} {seed : ℕ} {cells extra : List ℕ} → Recalls model seed cells extra → {used : ℕ} {name : Bytes} {i : ℕ} → Searching model cells used name i → i ≤ known extra → {r : Found} → r ≡ seek name (namesIn model (tableOf extra) i) → {t : Bool} → t ≡ since 0 r → t ≡ visible name (scopeIn model cells used)
+pub recall-ends : {model : Bytes} {seed : ℕ} {cells extra : List ℕ} → Recalls model seed cells extra → {used : ℕ} {name : Bytes} {i : ℕ}
+    → Searching model cells used name i → i ≤ known extra → {r : Found} → r ≡ seek name (namesIn model (tableOf extra) i) → {t : Bool} → t ≡ since 0 r
+    → t ≡ visible name (scopeIn model cells used)
 recall-ends {model} {seed} {cells} {extra} m {used} {name} {i} q h e f =
     f ∙ ap (since 0) e ∙ seek-member name (namesIn model (tableOf extra) i) ∙ recalled m name i h ∙ q .rest
 
 -- a name was stored and remembered, as far as the model has it
-pub recall-more : {model : Bytes} {seed : ℕ} {cells extra later : List ℕ} → Recalls model seed cells extra → (used : ℕ) → used < length cells → (f : Field) → nameAt model (f .place) ≡ nameIn model f → Remembered model seed used (text model f) extra later → Recalls model seed (set cells used (f .place)) later
+pub recall-more : {model : Bytes} {seed : ℕ} {cells extra later : List ℕ}
+    → Recalls model seed cells extra → (used : ℕ) → used < length cells → (f : Field) → nameAt model (f .place) ≡ nameIn model f
+    → Remembered model seed used (text model f) extra later
+    → Recalls model seed (set cells used (f .place)) later
 unfolding nameIn
 recall-more {model} {seed} {cells} m used h f e r = record {
   memory = r .memory (λ i. nameAt model (getD cells i 0) .bytes) (λ i. nameAt model (getD (set cells used (f .place)) i 0) .bytes) (m .memory)
@@ -65,12 +71,18 @@ module _ {model : Bytes} {ix : Index} where
   recalled-then m n = record { recalls = n .recalls; size = n .size ∙ m .size; lists = n .lists ∙ m .lists }
 
   -- a name was stored and remembered
-  pub recalled-more : {cells extra later : List ℕ} → Recalling model ix cells extra → (used : ℕ) → used < length cells → (f : Field) → nameAt model (f .place) ≡ nameIn model f → RememberedOn model ix used f extra later → Recalled model ix (set cells used (f .place)) extra later
+  pub recalled-more : {cells extra later : List ℕ} → Recalling model ix cells extra → (used : ℕ) → used < length cells → (f : Field)
+      → nameAt model (f .place) ≡ nameIn model f → RememberedOn model ix used f extra later
+      → Recalled model ix (set cells used (f .place)) extra later
   recalled-more {cells} {extra} {later} m used h f e r =
       let s = recall-more (m .scope) used h f e (r .names) in
       record {
         recalls = record {
-          both = record { fits = omega (arith, m .both .fits, r .size); names = s .memory .index; lists = subst (λ (l : List ℕ). Indexed model (ix .seed) (tableOf l) (known l)) (sym (r .lists)) (m .both .lists) };
+          both = record {
+            fits = omega (arith, m .both .fits, r .size);
+            names = s .memory .index;
+            lists = subst (λ (l : List ℕ). Indexed model (ix .seed) (tableOf l) (known l)) (sym (r .lists)) (m .both .lists);
+          };
           scope = s;
         };
         size = r .size;
@@ -82,11 +94,13 @@ module _ {model : Bytes} {ix : Index} where
   pub minded-none : {top : ℕ} {cells extra : List ℕ} → Recalling model ix cells extra → top ≤ known (drop (ix .split) extra) → Minded model ix top cells extra extra
   minded-none m h = record { recalls = m; size = refl; held = held-all (m .both .lists) h }
 
-  pub minded-recalled : {top : ℕ} {cells before after : List ℕ} → top ≤ known (drop (ix .split) before) → Recalled model ix cells before after → Minded model ix top cells before after
+  pub minded-recalled : {top : ℕ} {cells before after : List ℕ} → top ≤ known (drop (ix .split) before) → Recalled model ix cells before after
+      → Minded model ix top cells before after
   minded-recalled {top} {cells} {before} {after} h m = record {
     recalls = m .recalls;
     size = m .size;
-    held = subst (λ (l : List ℕ). Held model (ix .seed) top l (drop (ix .split) after)) (m .lists) (held-all (m .recalls .both .lists) (subst (λ (l : List ℕ). top ≤ known l) (sym (m .lists)) h));
+    held = subst (λ (l : List ℕ). Held model (ix .seed) top l (drop (ix .split) after)) (m .lists)
+        (held-all (m .recalls .both .lists) (subst (λ (l : List ℕ). top ≤ known l) (sym (m .lists)) h));
   }
 
   pub minded-then : {top : ℕ} {cells later a b c : List ℕ} → Minded model ix top cells a b → Minded model ix top later b c → Minded model ix top later a c
@@ -95,10 +109,16 @@ module _ {model : Bytes} {ix : Index} where
   pub minded-fewer : {n top : ℕ} {cells a b : List ℕ} → n ≤ top → Minded model ix top cells a b → Minded model ix n cells a b
   minded-fewer h m = record { recalls = m .recalls; size = m .size; held = held-fewer h (m .held) }
 
-  pub minded-added : {l : Listing} {name : Bytes} {cells extra later : List ℕ} {r : Listing} → Recalling model ix cells extra → AddedOn model ix l name extra later r → Minded model ix (l .top) cells extra later
+  pub minded-added : {l : Listing} {name : Bytes} {cells extra later : List ℕ} {r : Listing}
+      → Recalling model ix cells extra → AddedOn model ix l name extra later r
+      → Minded model ix (l .top) cells extra later
   minded-added {l} {name} {cells} {extra} {later} m a = record {
     recalls = record {
-      both = record { fits = omega (arith, m .both .fits, a .size); names = subst (λ (x : List ℕ). Indexed model (ix .seed) (tableOf x) (known x)) (sym (a .names)) (m .both .names); lists = a .lists .held .index };
+      both = record {
+        fits = omega (arith, m .both .fits, a .size);
+        names = subst (λ (x : List ℕ). Indexed model (ix .seed) (tableOf x) (known x)) (sym (a .names)) (m .both .names);
+        lists = a .lists .held .index;
+      };
       scope = subst (λ (x : List ℕ). Recalls model (ix .seed) cells x) (sym (a .names)) (m .scope);
     };
     size = a .size;

@@ -115,7 +115,8 @@ module _ {model : Bytes} {cells : List ℕ} {used : ℕ} {name : Bytes} {i : ℕ
 
 -- ---- a new name: x are its bytes, t the answer of the search for them
 
-module _ (model : Bytes) (cells : List ℕ) (p : Progress) (place : ℕ) (x : Bytes) (ex : x ≡ nameAt model place .bytes) (t : Bool) (et : t ≡ visible x (scopeIn model cells (p .used))) where
+module _ (model : Bytes) (cells : List ℕ) (p : Progress) (place : ℕ) (x : Bytes) (ex : x ≡ nameAt model place .bytes) (t : Bool)
+    (et : t ≡ visible x (scopeIn model cells (p .used))) where
   abbrev Defining : Judged Walk
   Defining = define (fills (length cells)) (walkIn model cells p) (nameAt model place)
 
@@ -125,7 +126,9 @@ module _ (model : Bytes) (cells : List ℕ) (p : Progress) (place : ℕ) (x : By
   define-by : Defining ≡ (refuse 23 at: place when: t >> (refuse 40 at: place when: leb (length cells) (p .used) >> pass New))
   unfolding define fills nameAt walkIn
   define-by =
-      ap (λ (u : Bool). refuse 23 at: place when: u >> (refuse 40 at: place when: leb (length cells) (length (scopeIn model cells (p .used))) >> pass New)) (ap (λ (y : Bytes). visible y (scopeIn model cells (p .used))) (sym ex) ∙ sym et)
+      ap (λ (u : Bool).
+      refuse 23 at: place when: u >> (refuse 40 at: place when: leb (length cells) (length (scopeIn model cells (p .used))) >> pass New))
+      (ap (λ (y : Bytes). visible y (scopeIn model cells (p .used))) (sym ex) ∙ sym et)
       ∙ ap (λ (n : ℕ). refuse 23 at: place when: t >> (refuse 40 at: place when: leb (length cells) n >> pass New)) (scope-length model cells (p .used))
 
   pub define-twice : t ≡ true → refused 23 place ≡ Defining
@@ -142,7 +145,8 @@ module _ (model : Bytes) (cells : List ℕ) (p : Progress) (place : ℕ) (x : By
       unfolding stepSays withName walkIn
       pushed =
           ap (λ (s : List Name). pass (record { scope = s; nodes = p .nodes; most = m })) (scope-push model cells (p .used) place h)
-          ∙ ap (λ (n : ℕ). pass (record { scope = nameAt model place ∷ scopeIn model cells (p .used); nodes = p .nodes; most = n })) (em ∙ ap (λ (n : ℕ). max (p .most) (n + 1)) (sym (scope-length model cells (p .used))))
+          ∙ ap (λ (n : ℕ). pass (record { scope = nameAt model place ∷ scopeIn model cells (p .used); nodes = p .nodes; most = n }))
+          (em ∙ ap (λ (n : ℕ). max (p .most) (n + 1)) (sym (scope-length model cells (p .used))))
 
       pub define-new : stepSays model (set cells (p .used) place) (step.Went (record { used = p .used + 1; nodes = p .nodes; most = m })) ≡ Defining
       unfolding _>>_ refuse_at:_when:_
@@ -174,7 +178,9 @@ name-again model end pos f h e k =
     rw (q, k)
 
 -- a message's name is there again, where it lies
-pub name-there : (model : Bytes) (empty number : ℕ) (m : Field) {x : Name} → pass x ≡ naming model empty number (message model m) → m .next ≤ length model → nameAt model (x .place) ≡ x
+pub name-there : (model : Bytes) (empty number : ℕ) (m : Field) {x : Name}
+    → pass x ≡ naming model empty number (message model m) → m .next ≤ length model
+    → nameAt model (x .place) ≡ x
 unfolding nameIn
 name-there model empty number m {x} k h =
     let held = name-field model empty number m k in

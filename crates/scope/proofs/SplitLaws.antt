@@ -27,10 +27,14 @@ pub drop-first : {n : ℕ} (a b : List ℕ) → length a ≡ n → drop n (a ++ 
 drop-first a b e = ap (λ (k : ℕ). drop k (a ++ b)) (sym e) ∙ drop-append-seam a b
 
 pub put-others : (split : ℕ) (extra new : List ℕ) → putMid split (length extra - split) extra new ≡ take split extra ++ new
-put-others split extra new = ap (λ (l : List ℕ). take split extra ++ l) (ap (λ (l : List ℕ). new ++ l) (drop-of-length-le (drop split extra) {i = length extra - split} (omega (arith, length-drop split extra))) ∙ append-nil new)
+put-others split extra new =
+    ap (λ (l : List ℕ). take split extra ++ l)
+    (ap (λ (l : List ℕ). new ++ l) (drop-of-length-le (drop split extra) {i = length extra - split} (omega (arith, length-drop split extra)))
+    ∙ append-nil new)
 
 module _ {model : Bytes} (ix : Index) {extra : List ℕ} (h : ix .split ≤ length extra) where
-  pub remembered-on : {place : ℕ} {name : Field} {new : List ℕ} → Remembered model (ix .seed) place (text model name) (take (ix .split) extra) new → RememberedOn model ix place name extra (new ++ drop (ix .split) extra)
+  pub remembered-on : {place : ℕ} {name : Field} {new : List ℕ} → Remembered model (ix .seed) place (text model name) (take (ix .split) extra) new
+      → RememberedOn model ix place name extra (new ++ drop (ix .split) extra)
   remembered-on {place} {name} {new} r =
       let size : length new ≡ ix .split = r .size ∙ length-take-le (ix .split) extra h in
       record {
@@ -39,7 +43,9 @@ module _ {model : Bytes} (ix : Index) {extra : List ℕ} (h : ix .split ≤ leng
         lists = drop-first new (drop (ix .split) extra) size;
       }
 
-  pub added-on : {l : Listing} {name : Bytes} {new : List ℕ} {r : Listing} → Added model (ix .seed) l name (take (length extra - ix .split) (drop (ix .split) extra)) new r → AddedOn model ix l name extra (putMid (ix .split) (length extra - ix .split) extra new) r
+  pub added-on : {l : Listing} {name : Bytes} {new : List ℕ} {r : Listing}
+      → Added model (ix .seed) l name (take (length extra - ix .split) (drop (ix .split) extra)) new r
+      → AddedOn model ix l name extra (putMid (ix .split) (length extra - ix .split) extra new) r
   added-on {l} {name} {new} {r} a =
       let first = length-take-le (ix .split) extra h in
       let b : Added model (ix .seed) l name (drop (ix .split) extra) new r = rw (others-lent (ix .split) extra) at a in

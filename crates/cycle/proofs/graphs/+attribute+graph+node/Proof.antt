@@ -19,7 +19,8 @@ use Rattle.scope.proofs.RecallLaws.{minded-none, minded-recalled, minded-then, 
 use Rattle.parts.proofs.ListsLaws.{Lists, lists-start, lists-fits, lists-found, lists-next, lists-minds}
 use Rattle.cycle.proofs.CycleLaws.{Going, enters-low, going-start, going-falls, going-enters, going-shorter, going-goes}
 use Rattle.cycle.proofs.PromiseLaws.{promised-and, stopped-counts, not-main}
-use Rattle.cycle.proofs.GraphLaws.{Nested, attribute-stops, attribute-plain, bodies-done, bodies-stop, bodies-go, node-stops, attributes-stop, attributes-done, graph-deep, graph-unopened, first-low, node-low, nodes-stop, nodes-done}
+use Rattle.cycle.proofs.GraphLaws.{Nested, attribute-stops, attribute-plain, bodies-done, bodies-stop, bodies-go, node-stops}
+use Rattle.cycle.proofs.GraphLaws.{attributes-stop, attributes-done, graph-deep, graph-unopened, first-low, node-low, nodes-stop, nodes-done}
 use borrow.Fn.Kinds.{In}
 use borrow.Fn.PlainCycle.{Measures, is, falls, and}
 use Rattle.cycle.proofs.graphs.attribute.Reads as attribute
@@ -108,15 +109,16 @@ attribute-μ-loop model cells₀ extra₀ ix l left number c₀ q₀ cells extra
 
 attribute-attribute-head-requires : (t : ℕ) → attribute-lts.Need-attribute-head-requires (attribute-claims t) (attribute-at t) attribute.Post attribute-Inv-loop attribute-μ-loop
 attribute-attribute-head-requires t c κs =
-    let c4 = c .before .before .before .before in
-    (c4 .pre .1 .1 .0 .recalls .both .fits, c4 .pre .1 .1 .1)
+    let entry = c .before .before .before .before in
+    (entry .pre .1 .1 .0 .recalls .both .fits, entry .pre .1 .1 .1)
 
 attribute-returns : (t : ℕ) → attribute-lts.Need-returns (attribute-claims t) (attribute-at t) attribute.Post attribute-Inv-loop attribute-μ-loop
 attribute-returns t c =
     let c1 = c .before in
     let c3 = c1 .before .before in
-    let c8 = c3 .before .before .before .before .before in
-    promised-and (attribute-stops _ _ _ _ _ _ _ (c3 .attribute-head .ensures) (c1 .enum-told2 .given .1) (c .standing .ensures)) (minded-none (c8 .pre .1 .1 .0 .recalls) (c8 .pre .1 .1 .0 .fits))
+    let entry = c3 .before .before .before .before .before in
+    promised-and (attribute-stops _ _ _ _ _ _ _ (c3 .attribute-head .ensures) (c1 .enum-told2 .given .1) (c .standing .ensures))
+    (minded-none (entry .pre .1 .1 .0 .recalls) (entry .pre .1 .1 .0 .fits))
 
 attribute-returns-2 : (t : ℕ) → attribute-lts.Need-returns-2 (attribute-claims t) (attribute-at t) attribute.Post attribute-Inv-loop attribute-μ-loop
 attribute-returns-2 t c =
@@ -125,70 +127,79 @@ attribute-returns-2 t c =
     let c3 = c2 .before in
     let c4 = c3 .before in
     let c6 = c4 .before .before in
-    let c11 = c6 .before .before .before .before .before in
-    promised-and (attribute-plain _ _ _ _ _ _ _ (c6 .attribute-head .ensures) (c4 .enum-told .given .1) (c3 .number-of .ensures) (c2 .carrier-of .ensures) (c1 .is-body .ensures) (c11 .pre .1 .0) (not-true _ (c .if1 .taken))) (minded-none (c11 .pre .1 .1 .0 .recalls) (c11 .pre .1 .1 .0 .fits))
+    let entry = c6 .before .before .before .before .before in
+    promised-and (attribute-plain _ _ _ _ _ _ _ (c6 .attribute-head .ensures) (c4 .enum-told .given .1) (c3 .number-of .ensures)
+    (c2 .carrier-of .ensures) (c1 .is-body .ensures) (entry .pre .1 .0) (not-true _ (c .if1 .taken)))
+    (minded-none (entry .pre .1 .1 .0 .recalls) (entry .pre .1 .1 .0 .fits))
 
 attribute-loop-holds : (t : ℕ) → attribute-lts.Need-loop-holds (attribute-claims t) (attribute-at t) attribute.Post attribute-Inv-loop attribute-μ-loop
 unfolding contentsOf
 attribute-loop-holds t c =
-    let c12 = c .before .before .before .before .before .before .before .before .before .before .before .before in
-    rw (c .contents .ensures) (going-start _ _ _ _ _ _ (c12 .pre .1 .0 .ends), c12 .pre .1 .1 .0, minded-none (c12 .pre .1 .1 .0 .recalls) (c12 .pre .1 .1 .0 .fits))
+    let entry = c .before .before .before .before .before .before .before .before .before .before .before .before in
+    rw (c .contents .ensures) (going-start _ _ _ _ _ _ (entry .pre .1 .0 .ends), entry .pre .1 .1 .0, minded-none (entry .pre .1 .1 .0 .recalls) (entry .pre .1 .1 .0 .fits))
 
 attribute-same-length-3 : (t : ℕ) → attribute-lts.Need-same-length-3 (attribute-claims t) (attribute-at t) attribute.Post attribute-Inv-loop attribute-μ-loop
 attribute-same-length-3 t c =
-    let c3 = c .before .before .before in
-    c3 .loop .inv .0 .adding .kept .size
+    let loop = c .before .before .before in
+    loop .loop .inv .0 .adding .kept .size
 
 attribute-same-length-4 : (t : ℕ) → attribute-lts.Need-same-length-4 (attribute-claims t) (attribute-at t) attribute.Post attribute-Inv-loop attribute-μ-loop
 attribute-same-length-4 t c =
-    let c3 = c .before .before .before in
-    c3 .loop .inv .2 .size
+    let loop = c .before .before .before in
+    loop .loop .inv .2 .size
 
 attribute-returns-3 : (t : ℕ) → attribute-lts.Need-returns-3 (attribute-claims t) (attribute-at t) attribute.Post attribute-Inv-loop attribute-μ-loop
 attribute-returns-3 t c =
     let c2 = c .before .before in
-    let c3 = c2 .before in
-    let c4 = c3 .before in
+    let loop = c2 .before in
+    let c4 = loop .before in
     let c5 = c4 .before in
     let c6 = c5 .before in
     let c7 = c6 .before in
     let c8 = c7 .before in
     let c9 = c8 .before in
     let c11 = c9 .before .before in
-    let c16 = c11 .before .before .before .before .before in
+    let entry = c11 .before .before .before .before .before in
     promised-and (bodies-done _ _ _ _ _ _ _ (c11 .attribute-head .ensures) (c9 .enum-told .given .1) (c8 .number-of .ensures) (c7 .carrier-of .ensures)
-    (c6 .is-body .ensures) (not-false _ (c5 .if1 .left)) (c4 .contents .ensures) (c3 .loop .inv .0) (c2 .next-of .ensures) (c16 .pre .1 .0)
-    (c .enum-told3 .given .1)) (c3 .loop .inv .2)
+    (c6 .is-body .ensures) (not-false _ (c5 .if1 .left)) (c4 .contents .ensures) (loop .loop .inv .0) (c2 .next-of .ensures) (entry .pre .1 .0)
+    (c .enum-told3 .given .1)) (loop .loop .inv .2)
 
 attribute-graph-requires : (t : ℕ) → attribute-lts.Need-graph-requires (attribute-claims t) (attribute-at t) attribute.Post attribute-Inv-loop attribute-μ-loop
 unfolding contentsOf
 attribute-graph-requires t c κs =
     let c3 = c .before .before .before in
     let c5 = c3 .before .before in
-    let c6 = c5 .before in
-    let c7 = c6 .before in
-    let c19 = c7 .before .before .before .before .before .before .before .before .before .before .before .before in
-    let g = rw (c7 .contents .ensures) at (c6 .loop .inv .0) in (going-shorter g (c5 .next-of .ensures) (c3 .sought .given .1) (c19 .pre .0), (going-enters g (c5 .next-of .ensures) (c3 .sought .given .1) (c19 .pre .1 .0 .short) (c19 .pre .1 .0 .inside) (enters-low (c19 .pre .1 .0)), (c6 .loop .inv .1, λ e. not-main e)))
+    let loop = c5 .before in
+    let c7 = loop .before in
+    let entry = c7 .before .before .before .before .before .before .before .before .before .before .before .before in
+    let g = rw (c7 .contents .ensures) at (loop .loop .inv .0) in (
+      going-shorter g (c5 .next-of .ensures) (c3 .sought .given .1) (entry .pre .0),
+      (
+        going-enters g (c5 .next-of .ensures) (c3 .sought .given .1) (entry .pre .1 .0 .short) (entry .pre .1 .0 .inside)
+            (enters-low (entry .pre .1 .0)),
+        (loop .loop .inv .1, λ e. not-main e),
+      ),
+    )
 
 attribute-same-length-5 : (t : ℕ) → attribute-lts.Need-same-length-5 (attribute-claims t) (attribute-at t) attribute.Post attribute-Inv-loop attribute-μ-loop
 attribute-same-length-5 t c =
     let c6 = c .before .before .before .before .before .before in
-    let c13 = c6 .before .before .before .before .before .before .before in
-    c6 .graph .ensures .1 .1 .1 .0 .size ∙ c13 .loop .inv .0 .adding .kept .size
+    let loop = c6 .before .before .before .before .before .before .before in
+    c6 .graph .ensures .1 .1 .1 .0 .size ∙ loop .loop .inv .0 .adding .kept .size
 
 attribute-same-length-6 : (t : ℕ) → attribute-lts.Need-same-length-6 (attribute-claims t) (attribute-at t) attribute.Post attribute-Inv-loop attribute-μ-loop
 attribute-same-length-6 t c =
     let c6 = c .before .before .before .before .before .before in
-    let c13 = c6 .before .before .before .before .before .before .before in
-    c6 .graph .ensures .1 .1 .1 .1 .size ∙ c13 .loop .inv .2 .size
+    let loop = c6 .before .before .before .before .before .before .before in
+    c6 .graph .ensures .1 .1 .1 .1 .size ∙ loop .loop .inv .2 .size
 
 attribute-returns-4 : (t : ℕ) → attribute-lts.Need-returns-4 (attribute-claims t) (attribute-at t) attribute.Post attribute-Inv-loop attribute-μ-loop
 attribute-returns-4 t c =
     let c6 = c .before .before .before .before .before .before in
     let c10 = c6 .before .before .before .before in
     let c12 = c10 .before .before in
-    let c13 = c12 .before in
-    let c14 = c13 .before in
+    let loop = c12 .before in
+    let c14 = loop .before in
     let c15 = c14 .before in
     let c16 = c15 .before in
     let c17 = c16 .before in
@@ -196,16 +207,16 @@ attribute-returns-4 t c =
     let c19 = c18 .before in
     let c21 = c19 .before .before in
     promised-and (bodies-stop _ _ _ _ _ _ _ (c21 .attribute-head .ensures) (c19 .enum-told .given .1) (c18 .number-of .ensures) (c17 .carrier-of .ensures)
-    (c16 .is-body .ensures) (not-false _ (c15 .if1 .left)) (c14 .contents .ensures) (c13 .loop .inv .0) (c12 .next-of .ensures) (c10 .sought .given .1) _
+    (c16 .is-body .ensures) (not-false _ (c15 .if1 .left)) (c14 .contents .ensures) (loop .loop .inv .0) (c12 .next-of .ensures) (c10 .sought .given .1) _
     (c6 .graph .ensures .0) (c6 .graph .ensures .1 .0) (c6 .graph .ensures .1 .1 .0) (c6 .graph .ensures .1 .1 .1 .0) (c .enum-told4 .given .1))
-    (minded-then (c13 .loop .inv .2) (c6 .graph .ensures .1 .1 .1 .1))
+    (minded-then (loop .loop .inv .2) (c6 .graph .ensures .1 .1 .1 .1))
 
 attribute-loop-less : (t : ℕ) → attribute-lts.Need-loop-less (attribute-claims t) (attribute-at t) attribute.Post attribute-Inv-loop attribute-μ-loop
 attribute-loop-less t c =
     let c12 = c .before .before .before .before .before .before .before .before .before .before .before .before in
     let c14 = c12 .before .before in
-    let c15 = c14 .before in
-    going-falls (c15 .loop .inv .0) (c14 .next-of .ensures) (c12 .sought .given .1)
+    let loop = c14 .before in
+    going-falls (loop .loop .inv .0) (c14 .next-of .ensures) (c12 .sought .given .1)
 
 attribute-loop-again : (t : ℕ) → attribute-lts.Need-loop-again (attribute-claims t) (attribute-at t) attribute.Post attribute-Inv-loop attribute-μ-loop
 attribute-loop-again t c =
@@ -213,8 +224,8 @@ attribute-loop-again t c =
     let c8 = c2 .before .before .before .before .before .before in
     let c12 = c8 .before .before .before .before in
     let c14 = c12 .before .before in
-    let c15 = c14 .before in
-    let c16 = c15 .before in
+    let loop = c14 .before in
+    let c16 = loop .before in
     let c17 = c16 .before in
     let c18 = c17 .before in
     let c19 = c18 .before in
@@ -222,11 +233,11 @@ attribute-loop-again t c =
     let c21 = c20 .before in
     let c23 = c21 .before .before in (
       bodies-go _ _ _ _ _ _ _ (c23 .attribute-head .ensures) (c21 .enum-told .given .1) (c20 .number-of .ensures) (c19 .carrier-of .ensures)
-          (c18 .is-body .ensures) (not-false _ (c17 .if1 .left)) (c16 .contents .ensures) (c15 .loop .inv .0) (c14 .next-of .ensures) (c12 .sought .given .1) _
+          (c18 .is-body .ensures) (not-false _ (c17 .if1 .left)) (c16 .contents .ensures) (loop .loop .inv .0) (c14 .next-of .ensures) (c12 .sought .given .1) _
           (c8 .graph .ensures .0) (c8 .graph .ensures .1 .0) (c8 .graph .ensures .1 .1 .0) (c8 .graph .ensures .1 .1 .1 .0) (c2 .step .given .1)
           (c .leaving .ensures),
-      minds-still (c15 .loop .inv .1) (c8 .graph .ensures .1 .1 .1 .1),
-      minded-then (c15 .loop .inv .2)
+      minds-still (loop .loop .inv .1) (c8 .graph .ensures .1 .1 .1 .1),
+      minded-then (loop .loop .inv .2)
           (c8 .graph .ensures .1 .1 .1 .1),
     )
 
@@ -262,13 +273,18 @@ graph-μ-loop model cells₀ extra₀ ix top left main f c₀ q₀ l₀ cells ex
 graph-returns : (t : ℕ) → graph-lts.Need-returns (graph-claims t) (graph-at t) graph.Post graph-Inv-loop graph-μ-loop
 graph-returns t c =
     let c1 = c .before in
-    let c5 = c1 .before .before .before .before in
-    (c .stopped .ensures .0 _ _ ∙ (let a = c5 .args in graph-deep _ _ (a .main) (now (a .cells)) (a .p) (a .f) (c1 .if1 .taken)), (c .stopped .ensures .1 _, (stopped-counts _ _ _ (c .stopped .ensures .0), (keeps-all _ _, minded-none (c5 .pre .1 .1 .0 .recalls) (c5 .pre .1 .1 .0 .fits)))))
+    let entry = c1 .before .before .before .before in (
+      c .stopped .ensures .0 _ _ ∙ (let a = entry .args in graph-deep _ _ (a .main) (now (a .cells)) (a .p) (a .f) (c1 .if1 .taken)),
+      (
+        c .stopped .ensures .1 _,
+        (stopped-counts _ _ _ (c .stopped .ensures .0), (keeps-all _ _, minded-none (entry .pre .1 .1 .0 .recalls) (entry .pre .1 .1 .0 .fits))),
+      ),
+    )
 
 graph-opening-requires : (t : ℕ) → graph-lts.Need-opening-requires (graph-claims t) (graph-at t) graph.Post graph-Inv-loop graph-μ-loop
 graph-opening-requires t c κs =
-    let c6 = c .before .before .before .before .before .before in
-    (c6 .pre .1 .0 .short, (c6 .pre .1 .0 .inside, (c6 .pre .1 .1 .0 .recalls, (c6 .pre .1 .1 .0 .fits, c6 .pre .1 .1 .1))))
+    let entry = c .before .before .before .before .before .before in
+    (entry .pre .1 .0 .short, (entry .pre .1 .0 .inside, (entry .pre .1 .1 .0 .recalls, (entry .pre .1 .1 .0 .fits, entry .pre .1 .1 .1))))
 
 graph-returns-2 : (t : ℕ) → graph-lts.Need-returns-2 (graph-claims t) (graph-at t) graph.Post graph-Inv-loop graph-μ-loop
 graph-returns-2 t c =
@@ -280,25 +296,29 @@ graph-loop-holds : (t : ℕ) → graph-lts.Need-loop-holds (graph-claims t) (gra
 unfolding contentsOf
 graph-loop-holds t c =
     let c8 = c .before .before .before .before .before .before .before .before in
-    let c15 = c8 .before .before .before .before .before .before .before in
-    rw (c .contents .ensures) (going-start _ _ _ _ _ _ (c15 .pre .1 .0 .ends), lists-start _ _ _ (c8 .opening .ensures .1 .1 .1 .recalls) (c8 .opening .ensures .1 .1 .1 .held .fits) _ refl, minds-still (c15 .pre .1 .1 .0) (c8 .opening .ensures .1 .1 .1))
+    let entry = c8 .before .before .before .before .before .before .before in
+    rw (c .contents .ensures) (
+      going-start _ _ _ _ _ _ (entry .pre .1 .0 .ends),
+      lists-start _ _ _ (c8 .opening .ensures .1 .1 .1 .recalls) (c8 .opening .ensures .1 .1 .1 .held .fits) _ refl,
+      minds-still (entry .pre .1 .1 .0) (c8 .opening .ensures .1 .1 .1),
+    )
 
 graph-graph-outputs-requires : (t : ℕ) → graph-lts.Need-graph-outputs-requires (graph-claims t) (graph-at t) graph.Post graph-Inv-loop graph-μ-loop
 graph-graph-outputs-requires t c κs =
-    let c5 = c .before .before .before .before .before in
-    c5 .loop .inv .1 .minded .recalls
+    let loop = c .before .before .before .before .before in
+    loop .loop .inv .1 .minded .recalls
 
 graph-same-length-3 : (t : ℕ) → graph-lts.Need-same-length-3 (graph-claims t) (graph-at t) graph.Post graph-Inv-loop graph-μ-loop
 graph-same-length-3 t c =
-    let c7 = c .before .before .before .before .before .before .before in
-    let c16 = c7 .before .before .before .before .before .before .before .before .before in
-    c7 .loop .inv .0 .adding .kept .size ∙ c16 .opening .ensures .1 .1 .0 .size
+    let loop = c .before .before .before .before .before .before .before in
+    let c16 = loop .before .before .before .before .before .before .before .before .before in
+    loop .loop .inv .0 .adding .kept .size ∙ c16 .opening .ensures .1 .1 .0 .size
 
 graph-same-length-4 : (t : ℕ) → graph-lts.Need-same-length-4 (graph-claims t) (graph-at t) graph.Post graph-Inv-loop graph-μ-loop
 graph-same-length-4 t c =
-    let c7 = c .before .before .before .before .before .before .before in
-    let c16 = c7 .before .before .before .before .before .before .before .before .before in
-    c7 .loop .inv .1 .minded .size ∙ c16 .opening .ensures .1 .1 .1 .size
+    let loop = c .before .before .before .before .before .before .before in
+    let c16 = loop .before .before .before .before .before .before .before .before .before in
+    loop .loop .inv .1 .minded .size ∙ c16 .opening .ensures .1 .1 .1 .size
 
 graph-returns-3 : (t : ℕ) → graph-lts.Need-returns-3 (graph-claims t) (graph-at t) graph.Post graph-Inv-loop graph-μ-loop
 unfolding context
@@ -306,78 +326,83 @@ graph-returns-3 t c =
     let c1 = c .before in
     let c4 = c1 .before .before .before in
     let c6 = c4 .before .before in
-    let c7 = c6 .before in
-    let c10 = c7 .before .before .before in
+    let loop = c6 .before in
+    let c10 = loop .before .before .before in
     let c16 = c10 .before .before .before .before .before .before in
     let c19 = c16 .before .before .before in
-    let c23 = c19 .before .before .before .before in
+    let entry = c19 .before .before .before .before in
     promised-and (nodes-done _ _ _ _ _ _ (c19 .if1 .left) _ _ (c16 .opening .ensures .0) (c16 .opening .ensures .1 .1 .0) (c10 .opened .given .1)
-    (c16 .opening .ensures .1 .0) (c7 .loop .inv .0) (c6 .next-of .ensures) (c23 .pre .1 .0) (c4 .enum-told2 .given .1) _ (c1 .graph-outputs .ensures
-    (context _ _) refl) (c .standing .ensures)) (minded-then (c16 .opening .ensures .1 .1 .1) (c7 .loop .inv .1 .minded))
+    (c16 .opening .ensures .1 .0) (loop .loop .inv .0) (c6 .next-of .ensures) (entry .pre .1 .0) (c4 .enum-told2 .given .1) _ (c1 .graph-outputs .ensures
+    (context _ _) refl) (c .standing .ensures)) (minded-then (c16 .opening .ensures .1 .1 .1) (loop .loop .inv .1 .minded))
 
 graph-sub-node : (t : ℕ) → graph-lts.Need-sub-node (graph-claims t) (graph-at t) graph.Post graph-Inv-loop graph-μ-loop
 graph-sub-node t c =
-    let c18 = c .before .before .before .before .before .before .before .before .before .before .before .before .before .before .before .before .before .before in
+    let c9 = c .before .before .before .before .before .before .before .before .before in
+    let c18 = c9 .before .before .before .before .before .before .before .before .before in
     omega (arith, c18 .if1 .left)
 
 graph-node-requires : (t : ℕ) → graph-lts.Need-node-requires (graph-claims t) (graph-at t) graph.Post graph-Inv-loop graph-μ-loop
 graph-node-requires t c κs =
     let c3 = c .before .before .before in
     let c5 = c3 .before .before in
-    let c6 = c5 .before in
-    let c9 = c6 .before .before .before in
+    let loop = c5 .before in
+    let c9 = loop .before .before .before in
     let c15 = c9 .before .before .before .before .before .before in
     let c18 = c15 .before .before .before in
-    let c22 = c18 .before .before .before .before in (
-      going-shorter (c6 .loop .inv .0) (c5 .next-of .ensures) (c3 .sought .given .1) (c22 .pre .0),
+    let entry = c18 .before .before .before .before in (
+      going-shorter (loop .loop .inv .0) (c5 .next-of .ensures) (c3 .sought .given .1) (entry .pre .0),
       (
-        going-enters (c6 .loop .inv .0) (c5 .next-of .ensures)
-            (c3 .sought .given .1) (c22 .pre .1 .0 .short) (c22 .pre .1 .0 .inside)
-            (first-low _ _ _ _ _ _ (c18 .if1 .left) _ _ (c15 .opening .ensures .0) (c15 .opening .ensures .1 .1 .0) (c9 .opened .given .1) (c22 .pre .1 .0)),
-        (minds-higher (c6 .loop .inv .2) (c6 .loop .inv .1 .above) (lists-fits (c6 .loop .inv .1)), lists-found (c6 .loop .inv .1) (c5 .next-of .ensures) (c3 .sought .given .1)),
+        going-enters (loop .loop .inv .0) (c5 .next-of .ensures)
+            (c3 .sought .given .1) (entry .pre .1 .0 .short) (entry .pre .1 .0 .inside)
+            (first-low _ _ _ _ _ _ (c18 .if1 .left) _ _ (c15 .opening .ensures .0) (c15 .opening .ensures .1 .1 .0) (c9 .opened .given .1) (entry .pre .1 .0)),
+        (
+          minds-higher (loop .loop .inv .2) (loop .loop .inv .1 .above) (lists-fits (loop .loop .inv .1)),
+          lists-found (loop .loop .inv .1) (c5 .next-of .ensures) (c3 .sought .given .1),
+        ),
       ),
     )
 
 graph-same-length-5 : (t : ℕ) → graph-lts.Need-same-length-5 (graph-claims t) (graph-at t) graph.Post graph-Inv-loop graph-μ-loop
 graph-same-length-5 t c =
     let c6 = c .before .before .before .before .before .before in
-    let c13 = c6 .before .before .before .before .before .before .before in
-    let c22 = c13 .before .before .before .before .before .before .before .before .before in
-    c6 .node .ensures .1 .1 .1 .0 .size ∙ c13 .loop .inv .0 .adding .kept .size ∙ c22 .opening .ensures .1 .1 .0 .size
+    let loop = c6 .before .before .before .before .before .before .before in
+    let c22 = loop .before .before .before .before .before .before .before .before .before in
+    c6 .node .ensures .1 .1 .1 .0 .size ∙ loop .loop .inv .0 .adding .kept .size ∙ c22 .opening .ensures .1 .1 .0 .size
 
 graph-same-length-6 : (t : ℕ) → graph-lts.Need-same-length-6 (graph-claims t) (graph-at t) graph.Post graph-Inv-loop graph-μ-loop
 graph-same-length-6 t c =
     let c6 = c .before .before .before .before .before .before in
-    let c13 = c6 .before .before .before .before .before .before .before in
-    let c22 = c13 .before .before .before .before .before .before .before .before .before in
-    c6 .node .ensures .1 .1 .1 .1 .size ∙ c13 .loop .inv .1 .minded .size ∙ c22 .opening .ensures .1 .1 .1 .size
+    let loop = c6 .before .before .before .before .before .before .before in
+    let c22 = loop .before .before .before .before .before .before .before .before .before in
+    c6 .node .ensures .1 .1 .1 .1 .size ∙ loop .loop .inv .1 .minded .size ∙ c22 .opening .ensures .1 .1 .1 .size
 
 graph-returns-4 : (t : ℕ) → graph-lts.Need-returns-4 (graph-claims t) (graph-at t) graph.Post graph-Inv-loop graph-μ-loop
 graph-returns-4 t c =
     let c6 = c .before .before .before .before .before .before in
     let c10 = c6 .before .before .before .before in
     let c12 = c10 .before .before in
-    let c13 = c12 .before in
-    let c16 = c13 .before .before .before in
+    let loop = c12 .before in
+    let c16 = loop .before .before .before in
     let c22 = c16 .before .before .before .before .before .before in
     let c25 = c22 .before .before .before in
     promised-and (nodes-stop _ _ _ _ _ _ (c25 .if1 .left) _ _ (c22 .opening .ensures .0) (c22 .opening .ensures .1 .1 .0) (c16 .opened .given .1)
-    (c22 .opening .ensures .1 .0) (c13 .loop .inv .0) (c12 .next-of .ensures) (c10 .sought .given .1) _ (c6 .node .ensures .0) (c6 .node .ensures .1 .0)
-    (c6 .node .ensures .1 .1 .1 .0) (c .enum-told3 .given .1)) (minded-then (c22 .opening .ensures .1 .1 .1) (minded-then (c13 .loop .inv .1 .minded)
-    (minded-fewer (c13 .loop .inv .1 .above) (c6 .node .ensures .1 .1 .1 .1))))
+    (c22 .opening .ensures .1 .0) (loop .loop .inv .0) (c12 .next-of .ensures) (c10 .sought .given .1) _ (c6 .node .ensures .0) (c6 .node .ensures .1 .0)
+    (c6 .node .ensures .1 .1 .1 .0) (c .enum-told3 .given .1)) (minded-then (c22 .opening .ensures .1 .1 .1) (minded-then (loop .loop .inv .1 .minded)
+    (minded-fewer (loop .loop .inv .1 .above) (c6 .node .ensures .1 .1 .1 .1))))
 
 graph-list-requires : (t : ℕ) → graph-lts.Need-list-requires (graph-claims t) (graph-at t) graph.Post graph-Inv-loop graph-μ-loop
 graph-list-requires t c κs =
     let c8 = c .before .before .before .before .before .before .before .before in
-    let c31 = c8 .before .before .before .before .before .before .before .before .before .before .before .before .before .before .before .before .before .before .before .before .before .before .before in
-    (c8 .node .ensures .1 .1 .1 .1 .recalls .both, (c8 .node .ensures .1 .1 .1 .1 .held .fits, c31 .pre .1 .0 .short))
+    let c19 = c8 .before .before .before .before .before .before .before .before .before .before .before in
+    let entry = c19 .before .before .before .before .before .before .before .before .before .before .before .before in
+    (c8 .node .ensures .1 .1 .1 .1 .recalls .both, (c8 .node .ensures .1 .1 .1 .1 .held .fits, entry .pre .1 .0 .short))
 
 graph-loop-less : (t : ℕ) → graph-lts.Need-loop-less (graph-claims t) (graph-at t) graph.Post graph-Inv-loop graph-μ-loop
 graph-loop-less t c =
     let c15 = c .before .before .before .before .before .before .before .before .before .before .before .before .before .before .before in
     let c17 = c15 .before .before in
-    let c18 = c17 .before in
-    going-falls (c18 .loop .inv .0) (c17 .next-of .ensures) (c15 .sought .given .1)
+    let loop = c17 .before in
+    going-falls (loop .loop .inv .0) (c17 .next-of .ensures) (c15 .sought .given .1)
 
 graph-loop-again : (t : ℕ) → graph-lts.Need-loop-again (graph-claims t) (graph-at t) graph.Post graph-Inv-loop graph-μ-loop
 graph-loop-again t c =
@@ -386,13 +411,13 @@ graph-loop-again t c =
     let c11 = c5 .before .before .before .before .before .before in
     let c15 = c11 .before .before .before .before in
     let c17 = c15 .before .before in
-    let c18 = c17 .before in (
-      going-goes (c18 .loop .inv .0) (c17 .next-of .ensures) (c15 .sought .given .1) _ (c11 .node .ensures .0) (c11 .node .ensures .1 .0)
+    let loop = c17 .before in (
+      going-goes (loop .loop .inv .0) (c17 .next-of .ensures) (c15 .sought .given .1) _ (c11 .node .ensures .0) (c11 .node .ensures .1 .0)
           (c11 .node .ensures .1 .1 .1 .0) (c11 .node .ensures .1 .1 .0) (c5 .step .given .1),
-      lists-next (c18 .loop .inv .1) (c17 .next-of .ensures)
+      lists-next (loop .loop .inv .1) (c17 .next-of .ensures)
           (c15 .sought .given .1) (c11 .node .ensures .1 .1 .1 .1) (c2 .list .ensures),
-      lists-minds (c18 .loop .inv .1) (c17 .next-of .ensures)
-          (c15 .sought .given .1) (c18 .loop .inv .2) (c11 .node .ensures .1 .1 .1 .1) (c2 .list .ensures),
+      lists-minds (loop .loop .inv .1) (c17 .next-of .ensures)
+          (c15 .sought .given .1) (loop .loop .inv .2) (c11 .node .ensures .1 .1 .1 .1) (c2 .list .ensures),
     )
 
 abbrev node-claims : ℕ → node-lts.Claims
@@ -424,103 +449,112 @@ node-μ-loop model cells₀ extra₀ ix left f c₀ q₀ own₀ cells extra c q 
 
 node-node-rules-requires : (t : ℕ) → node-lts.Need-node-rules-requires (node-claims t) (node-at t) node.Post node-Inv-loop node-μ-loop
 node-node-rules-requires t c κs =
-    let c5 = c .before .before .before .before .before in
-    (c5 .pre .1 .1 .0 .recalls, (c5 .pre .1 .1 .0 .imported, c5 .pre .1 .1 .1))
+    let entry = c .before .before .before .before .before in
+    (entry .pre .1 .1 .0 .recalls, (entry .pre .1 .1 .0 .imported, entry .pre .1 .1 .1))
 
 node-returns : (t : ℕ) → node-lts.Need-returns (node-claims t) (node-at t) node.Post node-Inv-loop node-μ-loop
 node-returns t c =
     let c1 = c .before in
     let c3 = c1 .before .before in
-    let c9 = c3 .before .before .before .before .before .before in
-    promised-and (node-stops _ _ _ _ _ _ _ (c3 .node-rules .ensures) (c1 .enum-told2 .given .1) (c .standing .ensures)) (minded-none (c9 .pre .1 .1 .0 .recalls) (c9 .pre .1 .1 .0 .fits))
+    let entry = c3 .before .before .before .before .before .before in
+    promised-and (node-stops _ _ _ _ _ _ _ (c3 .node-rules .ensures) (c1 .enum-told2 .given .1) (c .standing .ensures))
+    (minded-none (entry .pre .1 .1 .0 .recalls) (entry .pre .1 .1 .0 .fits))
 
 node-loop-holds : (t : ℕ) → node-lts.Need-loop-holds (node-claims t) (node-at t) node.Post node-Inv-loop node-μ-loop
 unfolding contentsOf
 node-loop-holds t c =
-    let c9 = c .before .before .before .before .before .before .before .before .before in
-    rw (c .contents .ensures) (going-start _ _ _ _ _ _ (c9 .pre .1 .0 .ends), lists-start _ _ _ (c9 .pre .1 .1 .0 .recalls) (c9 .pre .1 .1 .0 .fits) _ refl, c9 .pre .1 .1 .0)
+    let entry = c .before .before .before .before .before .before .before .before .before in
+    rw (c .contents .ensures) (
+      going-start _ _ _ _ _ _ (entry .pre .1 .0 .ends),
+      lists-start _ _ _ (entry .pre .1 .1 .0 .recalls) (entry .pre .1 .1 .0 .fits) _ refl,
+      entry .pre .1 .1 .0,
+    )
 
 node-closing-requires : (t : ℕ) → node-lts.Need-closing-requires (node-claims t) (node-at t) node.Post node-Inv-loop node-μ-loop
 node-closing-requires t c κs =
-    let c5 = c .before .before .before .before .before in
-    let c15 = c5 .before .before .before .before .before .before .before .before .before .before in
-    (c15 .pre .1 .0 .short, (c15 .pre .1 .0 .inside, (node-low (c5 .loop .inv .0) (c15 .pre .1 .0), c5 .loop .inv .1 .minded .recalls)))
+    let loop = c .before .before .before .before .before in
+    let entry = loop .before .before .before .before .before .before .before .before .before .before in
+    (entry .pre .1 .0 .short, (entry .pre .1 .0 .inside, (node-low (loop .loop .inv .0) (entry .pre .1 .0), loop .loop .inv .1 .minded .recalls)))
 
 node-same-length-3 : (t : ℕ) → node-lts.Need-same-length-3 (node-claims t) (node-at t) node.Post node-Inv-loop node-μ-loop
 node-same-length-3 t c =
     let c4 = c .before .before .before .before in
-    let c10 = c4 .before .before .before .before .before .before in
-    c4 .closing .ensures .1 .1 .0 .size ∙ c10 .loop .inv .0 .adding .kept .size
+    let loop = c4 .before .before .before .before .before .before in
+    c4 .closing .ensures .1 .1 .0 .size ∙ loop .loop .inv .0 .adding .kept .size
 
 node-same-length-4 : (t : ℕ) → node-lts.Need-same-length-4 (node-claims t) (node-at t) node.Post node-Inv-loop node-μ-loop
 node-same-length-4 t c =
     let c4 = c .before .before .before .before in
-    let c10 = c4 .before .before .before .before .before .before in
-    c4 .closing .ensures .1 .1 .1 .size ∙ c10 .loop .inv .1 .minded .size
+    let loop = c4 .before .before .before .before .before .before in
+    c4 .closing .ensures .1 .1 .1 .size ∙ loop .loop .inv .1 .minded .size
 
 node-returns-2 : (t : ℕ) → node-lts.Need-returns-2 (node-claims t) (node-at t) node.Post node-Inv-loop node-μ-loop
 node-returns-2 t c =
     let c4 = c .before .before .before .before in
     let c7 = c4 .before .before .before in
     let c9 = c7 .before .before in
-    let c10 = c9 .before in
-    let c12 = c10 .before .before in
+    let loop = c9 .before in
+    let c12 = loop .before .before in
     let c14 = c12 .before .before in
-    let c20 = c14 .before .before .before .before .before .before in
-    promised-and (attributes-done _ _ _ _ _ _ _ (c14 .node-rules .ensures) (c12 .enum-told .given .1) (c10 .loop .inv .0) (c9 .next-of .ensures)
-    (c20 .pre .1 .0) (c7 .enum-told3 .given .1) _ (c4 .closing .ensures .0) (c4 .closing .ensures .1 .0) (c4 .closing .ensures .1 .1 .0)) (minded-then
-    (c10 .loop .inv .1 .minded) (minded-recalled (c10 .loop .inv .1 .minded .held .fits) (c4 .closing .ensures .1 .1 .1)))
+    let entry = c14 .before .before .before .before .before .before in
+    promised-and (attributes-done _ _ _ _ _ _ _ (c14 .node-rules .ensures) (c12 .enum-told .given .1) (loop .loop .inv .0) (c9 .next-of .ensures)
+    (entry .pre .1 .0) (c7 .enum-told3 .given .1) _ (c4 .closing .ensures .0) (c4 .closing .ensures .1 .0) (c4 .closing .ensures .1 .1 .0)) (minded-then
+    (loop .loop .inv .1 .minded) (minded-recalled (loop .loop .inv .1 .minded .held .fits) (c4 .closing .ensures .1 .1 .1)))
 
 node-attribute-requires : (t : ℕ) → node-lts.Need-attribute-requires (node-claims t) (node-at t) node.Post node-Inv-loop node-μ-loop
 node-attribute-requires t c κs =
     let c3 = c .before .before .before in
     let c5 = c3 .before .before in
-    let c6 = c5 .before in
-    let c16 = c6 .before .before .before .before .before .before .before .before .before .before in (
-      going-shorter (c6 .loop .inv .0) (c5 .next-of .ensures) (c3 .sought .given .1) (c16 .pre .0),
+    let loop = c5 .before in
+    let entry = loop .before .before .before .before .before .before .before .before .before .before in (
+      going-shorter (loop .loop .inv .0) (c5 .next-of .ensures) (c3 .sought .given .1) (entry .pre .0),
       (
-        going-enters (c6 .loop .inv .0) (c5 .next-of .ensures)
-            (c3 .sought .given .1) (c16 .pre .1 .0 .short) (c16 .pre .1 .0 .inside) (enters-low (c16 .pre .1 .0)),
-        (minds-higher (c6 .loop .inv .2) (c6 .loop .inv .1 .above) (lists-fits (c6 .loop .inv .1)), lists-found (c6 .loop .inv .1) (c5 .next-of .ensures) (c3 .sought .given .1)),
+        going-enters (loop .loop .inv .0) (c5 .next-of .ensures)
+            (c3 .sought .given .1) (entry .pre .1 .0 .short) (entry .pre .1 .0 .inside) (enters-low (entry .pre .1 .0)),
+        (
+          minds-higher (loop .loop .inv .2) (loop .loop .inv .1 .above) (lists-fits (loop .loop .inv .1)),
+          lists-found (loop .loop .inv .1) (c5 .next-of .ensures) (c3 .sought .given .1),
+        ),
       ),
     )
 
 node-same-length-5 : (t : ℕ) → node-lts.Need-same-length-5 (node-claims t) (node-at t) node.Post node-Inv-loop node-μ-loop
 node-same-length-5 t c =
     let c6 = c .before .before .before .before .before .before in
-    let c13 = c6 .before .before .before .before .before .before .before in
-    c6 .attribute .ensures .1 .1 .1 .0 .size ∙ c13 .loop .inv .0 .adding .kept .size
+    let loop = c6 .before .before .before .before .before .before .before in
+    c6 .attribute .ensures .1 .1 .1 .0 .size ∙ loop .loop .inv .0 .adding .kept .size
 
 node-same-length-6 : (t : ℕ) → node-lts.Need-same-length-6 (node-claims t) (node-at t) node.Post node-Inv-loop node-μ-loop
 node-same-length-6 t c =
     let c6 = c .before .before .before .before .before .before in
-    let c13 = c6 .before .before .before .before .before .before .before in
-    c6 .attribute .ensures .1 .1 .1 .1 .size ∙ c13 .loop .inv .1 .minded .size
+    let loop = c6 .before .before .before .before .before .before .before in
+    c6 .attribute .ensures .1 .1 .1 .1 .size ∙ loop .loop .inv .1 .minded .size
 
 node-returns-3 : (t : ℕ) → node-lts.Need-returns-3 (node-claims t) (node-at t) node.Post node-Inv-loop node-μ-loop
 node-returns-3 t c =
     let c6 = c .before .before .before .before .before .before in
     let c10 = c6 .before .before .before .before in
     let c12 = c10 .before .before in
-    let c13 = c12 .before in
-    let c15 = c13 .before .before in
+    let loop = c12 .before in
+    let c15 = loop .before .before in
     let c17 = c15 .before .before in
-    promised-and (attributes-stop _ _ _ _ _ _ _ (c17 .node-rules .ensures) (c15 .enum-told .given .1) (c13 .loop .inv .0) (c12 .next-of .ensures)
+    promised-and (attributes-stop _ _ _ _ _ _ _ (c17 .node-rules .ensures) (c15 .enum-told .given .1) (loop .loop .inv .0) (c12 .next-of .ensures)
     (c10 .sought .given .1) _ (c6 .attribute .ensures .0) (c6 .attribute .ensures .1 .0) (c6 .attribute .ensures .1 .1 .1 .0) (c .enum-told4 .given .1))
-    (minded-then (c13 .loop .inv .1 .minded) (minded-fewer (c13 .loop .inv .1 .above) (c6 .attribute .ensures .1 .1 .1 .1)))
+    (minded-then (loop .loop .inv .1 .minded) (minded-fewer (loop .loop .inv .1 .above) (c6 .attribute .ensures .1 .1 .1 .1)))
 
 node-list-requires : (t : ℕ) → node-lts.Need-list-requires (node-claims t) (node-at t) node.Post node-Inv-loop node-μ-loop
 node-list-requires t c κs =
     let c8 = c .before .before .before .before .before .before .before .before in
-    let c25 = c8 .before .before .before .before .before .before .before .before .before .before .before .before .before .before .before .before .before in
-    (c8 .attribute .ensures .1 .1 .1 .1 .recalls .both, (c8 .attribute .ensures .1 .1 .1 .1 .held .fits, c25 .pre .1 .0 .short))
+    let c16 = c8 .before .before .before .before .before .before .before .before in
+    let entry = c16 .before .before .before .before .before .before .before .before .before in
+    (c8 .attribute .ensures .1 .1 .1 .1 .recalls .both, (c8 .attribute .ensures .1 .1 .1 .1 .held .fits, entry .pre .1 .0 .short))
 
 node-loop-less : (t : ℕ) → node-lts.Need-loop-less (node-claims t) (node-at t) node.Post node-Inv-loop node-μ-loop
 node-loop-less t c =
     let c15 = c .before .before .before .before .before .before .before .before .before .before .before .before .before .before .before in
     let c17 = c15 .before .before in
-    let c18 = c17 .before in
-    going-falls (c18 .loop .inv .0) (c17 .next-of .ensures) (c15 .sought .given .1)
+    let loop = c17 .before in
+    going-falls (loop .loop .inv .0) (c17 .next-of .ensures) (c15 .sought .given .1)
 
 node-loop-again : (t : ℕ) → node-lts.Need-loop-again (node-claims t) (node-at t) node.Post node-Inv-loop node-μ-loop
 node-loop-again t c =
@@ -529,13 +563,13 @@ node-loop-again t c =
     let c11 = c5 .before .before .before .before .before .before in
     let c15 = c11 .before .before .before .before in
     let c17 = c15 .before .before in
-    let c18 = c17 .before in (
-      going-goes (c18 .loop .inv .0) (c17 .next-of .ensures) (c15 .sought .given .1) _ (c11 .attribute .ensures .0) (c11 .attribute .ensures .1 .0)
+    let loop = c17 .before in (
+      going-goes (loop .loop .inv .0) (c17 .next-of .ensures) (c15 .sought .given .1) _ (c11 .attribute .ensures .0) (c11 .attribute .ensures .1 .0)
           (c11 .attribute .ensures .1 .1 .1 .0) (c11 .attribute .ensures .1 .1 .0) (c5 .step .given .1),
-      lists-next (c18 .loop .inv .1) (c17 .next-of .ensures)
+      lists-next (loop .loop .inv .1) (c17 .next-of .ensures)
           (c15 .sought .given .1) (c11 .attribute .ensures .1 .1 .1 .1) (c2 .list .ensures),
-      lists-minds (c18 .loop .inv .1) (c17 .next-of .ensures)
-          (c15 .sought .given .1) (c18 .loop .inv .2) (c11 .attribute .ensures .1 .1 .1 .1) (c2 .list .ensures),
+      lists-minds (loop .loop .inv .1) (c17 .next-of .ensures)
+          (c15 .sought .given .1) (loop .loop .inv .2) (c11 .attribute .ensures .1 .1 .1 .1) (c2 .list .ensures),
     )
 
 pub +attribute+graph+node-spec : {M : Type 1} → statement M

@@ -8,8 +8,10 @@ returns c =
     let c2 = c .before .before in
     let c4 = c2 .before .before in
     let c5 = c4 .before in
-    let c8 = c5 .before .before .before in
-    remembered-text (c8 .args .name) (c5 .lesser .ensures) (c4 .lesser2 .ensures) (c2 .remember .ensures)
+    let entry = c5 .before .before .before in
+    remembered-text (entry .args .name) (c5 .lesser .ensures) (c4 .lesser2 .ensures) (c2 .remember .ensures)
 
 pub remember-name-spec : {M : Type 1} → statement M
-remember-name-spec = tie.close (tie.spec (λ c κs. search needs) (λ c κs. search needs) (λ c. search needs) (λ c. search needs) (λ c. search needs) (λ c κs. search needs) (λ c. search needs) returns)
+remember-name-spec =
+    tie.close (tie.spec (λ c κs. search needs) (λ c κs. search needs) (λ c. search needs) (λ c. search needs) (λ c. search needs)
+    (λ c κs. search needs) (λ c. search needs) returns)

@@ -15,25 +15,25 @@ loop-holds c = scan-start _ _ _ _
 
 name-of-requires : tie.Need-name-of-requires Inv-loop μ-loop
 name-of-requires c κs =
-    let c1 = c .before in
-    let c5 = c1 .before .before .before .before in
-    omega (arith, c1 .loop .inv .inside, c .loop-test .taken, c5 .pre)
+    let loop = c .before in
+    let entry = loop .before .before .before .before in
+    omega (arith, loop .loop .inv .inside, c .loop-test .taken, entry .pre)
 
 returns : tie.Need-returns Inv-loop μ-loop
 returns c =
     let c1 = c .before in
     let c2 = c1 .before in
     let c3 = c2 .before in
-    let c4 = c3 .before in
-    scan-here (c4 .loop .inv) (c3 .loop-test .taken) (c2 .name-of .ensures) (c1 .same-bytes .ensures) (c .if1 .taken)
+    let loop = c3 .before in
+    scan-here (loop .loop .inv) (c3 .loop-test .taken) (c2 .name-of .ensures) (c1 .same-bytes .ensures) (c .if1 .taken)
 
 loop-again : tie.Need-loop-again Inv-loop μ-loop
 loop-again c =
     let c1 = c .before in
     let c2 = c1 .before in
     let c3 = c2 .before in
-    let c4 = c3 .before in
-    scan-next (c4 .loop .inv) (c3 .loop-test .taken) (c2 .name-of .ensures) (c1 .same-bytes .ensures) (c .if1 .left)
+    let loop = c3 .before in
+    scan-next (loop .loop .inv) (c3 .loop-test .taken) (c2 .name-of .ensures) (c1 .same-bytes .ensures) (c .if1 .left)
 
 returns-2 : tie.Need-returns-2 Inv-loop μ-loop
 returns-2 c = scan-end (c .before .loop .inv) (c .loop-test .left)

@@ -15,10 +15,21 @@ loop-holds : tie.Need-loop-holds Inv-loop μ-loop
 loop-holds c = seek-start _ _ _
 
 returns : tie.Need-returns Inv-loop μ-loop
-returns c = seek-here (c .before .before .before .before .loop .inv) (c .before .before .before .loop-test .taken) _ (c .before .before .domain-of .ensures) _ (c .before .same-bytes .ensures) (c .if1 .taken)
+returns c =
+    let c1 = c .before in
+    let c2 = c1 .before in
+    let c3 = c2 .before in
+    let loop = c3 .before in
+    seek-here (loop .loop .inv) (c3 .loop-test .taken) _ (c2 .domain-of .ensures) _ (c1 .same-bytes .ensures) (c .if1 .taken)
 
 loop-again : tie.Need-loop-again Inv-loop μ-loop
-loop-again c = seek-next (c .before .before .before .before .before .loop .inv) (c .before .before .before .before .loop-test .taken) _ (c .before .before .before .domain-of .ensures) _ (c .before .before .same-bytes .ensures) (c .before .if1 .left) _ (c .after .ensures .0)
+loop-again c =
+    let c1 = c .before in
+    let c2 = c1 .before in
+    let c3 = c2 .before in
+    let c4 = c3 .before in
+    let loop = c4 .before in
+    seek-next (loop .loop .inv) (c4 .loop-test .taken) _ (c3 .domain-of .ensures) _ (c2 .same-bytes .ensures) (c1 .if1 .left) _ (c .after .ensures .0)
 
 returns-2 : tie.Need-returns-2 Inv-loop μ-loop
 returns-2 c = seek-end (c .before .loop .inv) (c .loop-test .left)

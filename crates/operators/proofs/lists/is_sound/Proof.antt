@@ -22,10 +22,28 @@ returns-2 : tie.Need-returns-2 Inv-loop μ-loop
 returns-2 c = judge-broken (c .before .before .before .loop .inv) (c .before .before .loop-test .taken) _ (c .before .is-well-formed .ensures) (not-true _ (c .if2 .taken))
 
 returns-3 : tie.Need-returns-3 Inv-loop μ-loop
-returns-3 c = let k = c .before .before .before .before .before in judge-twice (k .before .before .before .loop .inv) (k .before .before .loop-test .taken) _ (k .before .is-well-formed .ensures) (not-false _ (k .if2 .left)) _ (c .before .before .before .before .after .ensures .0) _ (c .before .before .before .domain-of .ensures) (c .before .before .entry-of .ensures) (c .enum-told2 .given .1)
+returns-3 c =
+    let c2 = c .before .before in
+    let c3 = c2 .before in
+    let c4 = c3 .before in
+    let c5 = c4 .before in
+    let c6 = c5 .before in
+    let c7 = c6 .before in
+    let loop = c7 .before in
+    judge-twice (loop .loop .inv) (c7 .loop-test .taken) _ (c6 .is-well-formed .ensures) (not-false _ (c5 .if2 .left)) _ (c4 .after .ensures .0) _
+    (c3 .domain-of .ensures) (c2 .entry-of .ensures) (c .enum-told2 .given .1)
 
 loop-again : tie.Need-loop-again Inv-loop μ-loop
-loop-again c = let k = c .before .before .before .before .before in judge-next (k .before .before .before .loop .inv) (k .before .before .loop-test .taken) _ (k .before .is-well-formed .ensures) (not-false _ (k .if2 .left)) _ (c .before .before .before .before .after .ensures .0) _ (c .before .before .before .domain-of .ensures) (c .before .before .entry-of .ensures) (c .enum-told .given .1)
+loop-again c =
+    let c2 = c .before .before in
+    let c3 = c2 .before in
+    let c4 = c3 .before in
+    let c5 = c4 .before in
+    let c6 = c5 .before in
+    let c7 = c6 .before in
+    let loop = c7 .before in
+    judge-next (loop .loop .inv) (c7 .loop-test .taken) _ (c6 .is-well-formed .ensures) (not-false _ (c5 .if2 .left)) _ (c4 .after .ensures .0) _
+    (c3 .domain-of .ensures) (c2 .entry-of .ensures) (c .enum-told .given .1)
 
 returns-4 : tie.Need-returns-4 Inv-loop μ-loop
 returns-4 c = judge-end (c .before .loop .inv) (c .loop-test .left)

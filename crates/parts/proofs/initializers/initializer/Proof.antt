@@ -13,12 +13,12 @@ default-or-new-requires : tie.Need-default-or-new-requires
 default-or-new-requires c κs =
     let c3 = c .before .before .before in
     let c5 = c3 .before .before in
-    let c9 = c5 .before .before .before .before in (
-      named-placed _ _ _ _ (c5 .read-name .ensures) (c3 .name .given .1) _ (c9 .pre .0) (c9 .pre .1 .0),
+    let entry = c5 .before .before .before .before in (
+      named-placed _ _ _ _ (c5 .read-name .ensures) (c3 .name .given .1) _ (entry .pre .0) (entry .pre .1 .0),
       (
         named-there _ _ _ _ (c5 .read-name .ensures)
-            (c3 .name .given .1) (c9 .pre .1 .0),
-        (c9 .pre .0, (c9 .pre .1 .1 .0, (c9 .pre .1 .1 .1 .0, (c9 .pre .1 .1 .1 .1, named-some _ _ _ _ _ (c5 .read-name .ensures) (c3 .name .given .1))))),
+            (c3 .name .given .1) (entry .pre .1 .0),
+        (entry .pre .0, (entry .pre .1 .1 .0, (entry .pre .1 .1 .1 .0, (entry .pre .1 .1 .1 .1, named-some _ _ _ _ _ (c5 .read-name .ensures) (c3 .name .given .1))))),
       ),
     )
 
@@ -51,8 +51,8 @@ unfolding stepSays grows
 returns-3 c =
     let c1 = c .before in
     let c3 = c1 .before .before in
-    let c7 = c3 .before .before .before .before in
-    (initializer-unnamed _ _ _ _ _ _ _ (c3 .read-name .ensures) (c1 .r .given .1), (tt, (keeps-all _ _, recalled-none (c7 .pre .1 .1 .0))))
+    let entry = c3 .before .before .before .before in
+    (initializer-unnamed _ _ _ _ _ _ _ (c3 .read-name .ensures) (c1 .r .given .1), (tt, (keeps-all _ _, recalled-none (entry .pre .1 .1 .0))))
 
 returns-4 : tie.Need-returns-4
 returns-4 c =

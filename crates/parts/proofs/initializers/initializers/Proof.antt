@@ -31,33 +31,38 @@ abbrev μ-loop : tie.MeasureT-loop
 
 loop-holds : tie.Need-loop-holds Inv-loop μ-loop
 loop-holds c =
-    let c4 = c .before .before .before .before in
-    (adding-start _ _ _ _ _ _ (along-start _ _ _ _ _), lists-start _ _ _ (c4 .pre .1 .1 .0) (c4 .pre .1 .1 .1 .1) _ (c .contents .ensures), c4 .pre .1 .1 .1 .0, omega arith)
+    let entry = c .before .before .before .before in (
+      adding-start _ _ _ _ _ _ (along-start _ _ _ _ _),
+      lists-start _ _ _ (entry .pre .1 .1 .0) (entry .pre .1 .1 .1 .1) _ (c .contents .ensures),
+      entry .pre .1 .1 .1 .0,
+      omega arith,
+    )
 
 same-length-2 : tie.Need-same-length-2 Inv-loop μ-loop
 same-length-2 c =
-    let c3 = c .before .before .before in
-    c3 .loop .inv .1 .minded .size
+    let loop = c .before .before .before in
+    loop .loop .inv .1 .minded .size
 
 returns : tie.Need-returns Inv-loop μ-loop
 returns c =
     let c2 = c .before .before in
-    let c3 = c2 .before in
-    let c4 = c3 .before in
-    let d = adding-done (c3 .loop .inv .0) (c2 .next-of .ensures) (c .enum-told .given .1) in (d .0 ∙ along-contents _ _ _ _ _ (c4 .contents .ensures), (d .1 .0, (d .1 .1, c3 .loop .inv .1 .minded)))
+    let loop = c2 .before in
+    let c4 = loop .before in
+    let d = adding-done (loop .loop .inv .0) (c2 .next-of .ensures) (c .enum-told .given .1) in
+    (d .0 ∙ along-contents _ _ _ _ _ (c4 .contents .ensures), (d .1 .0, (d .1 .1, loop .loop .inv .1 .minded)))
 
 initializer-requires : tie.Need-initializer-requires Inv-loop μ-loop
 initializer-requires c κs =
     let c3 = c .before .before .before in
     let c5 = c3 .before .before in
-    let c6 = c5 .before in
-    let c7 = c6 .before in
-    let c11 = c7 .before .before .before .before in (
-      c11 .pre .0,
+    let loop = c5 .before in
+    let c7 = loop .before in
+    let entry = c7 .before .before .before .before in (
+      entry .pre .0,
       (
-        le-trans (adding-inside (c6 .loop .inv .0) (c5 .next-of .ensures) (c3 .sought .given .1))
-            (contents-inside _ _ (c7 .contents .ensures) (c11 .pre .1 .0)),
-        (c6 .loop .inv .1 .minded .recalls, (c6 .loop .inv .2, lists-found (c6 .loop .inv .1) (c5 .next-of .ensures) (c3 .sought .given .1))),
+        le-trans (adding-inside (loop .loop .inv .0) (c5 .next-of .ensures) (c3 .sought .given .1))
+            (contents-inside _ _ (c7 .contents .ensures) (entry .pre .1 .0)),
+        (loop .loop .inv .1 .minded .recalls, (loop .loop .inv .2, lists-found (loop .loop .inv .1) (c5 .next-of .ensures) (c3 .sought .given .1))),
       ),
     )
 
@@ -66,16 +71,26 @@ returns-2 c =
     let c6 = c .before .before .before .before .before .before in
     let c10 = c6 .before .before .before .before in
     let c12 = c10 .before .before in
-    let c13 = c12 .before in
-    let c14 = c13 .before in
-    let d = adding-stops (c13 .loop .inv .0) (c12 .next-of .ensures) (c10 .sought .given .1) _ (c6 .initializer .ensures .0) (c6 .initializer .ensures .1 .0) (c6 .initializer .ensures .1 .1 .0) (c .enum-told2 .given .1) in (d .0 ∙ along-contents _ _ _ _ _ (c14 .contents .ensures), (d .1 .0, (d .1 .1, minded-then (c13 .loop .inv .1 .minded) (minded-recalled (c13 .loop .inv .1 .minded .held .fits) (c6 .initializer .ensures .1 .1 .1)))))
+    let loop = c12 .before in
+    let c14 = loop .before in
+    let d = adding-stops (loop .loop .inv .0) (c12 .next-of .ensures) (c10 .sought .given .1) _ (c6 .initializer .ensures .0)
+    (c6 .initializer .ensures .1 .0) (c6 .initializer .ensures .1 .1 .0) (c .enum-told2 .given .1) in (
+      d .0 ∙ along-contents _ _ _ _ _ (c14 .contents .ensures),
+      (
+        d .1 .0,
+        (
+          d .1 .1,
+          minded-then (loop .loop .inv .1 .minded) (minded-recalled (loop .loop .inv .1 .minded .held .fits) (c6 .initializer .ensures .1 .1 .1)),
+        ),
+      ),
+    )
 
 loop-less : tie.Need-loop-less Inv-loop μ-loop
 loop-less c =
     let c15 = c .before .before .before .before .before .before .before .before .before .before .before .before .before .before .before in
     let c17 = c15 .before .before in
-    let c18 = c17 .before in
-    adding-falls (c18 .loop .inv .0) (c17 .next-of .ensures) (c15 .sought .given .1)
+    let loop = c17 .before in
+    adding-falls (loop .loop .inv .0) (c17 .next-of .ensures) (c15 .sought .given .1)
 
 loop-again : tie.Need-loop-again Inv-loop μ-loop
 loop-again c =
@@ -84,22 +99,22 @@ loop-again c =
     let c11 = c5 .before .before .before .before .before .before in
     let c15 = c11 .before .before .before .before in
     let c17 = c15 .before .before in
-    let c18 = c17 .before in (
-      adding-goes (c18 .loop .inv .0) (c17 .next-of .ensures) (c15 .sought .given .1) _ (c11 .initializer .ensures .0) (c11 .initializer .ensures .1 .0)
+    let loop = c17 .before in (
+      adding-goes (loop .loop .inv .0) (c17 .next-of .ensures) (c15 .sought .given .1) _ (c11 .initializer .ensures .0) (c11 .initializer .ensures .1 .0)
           (c11 .initializer .ensures .1 .1 .0) (c5 .step .given .1),
-      lists-next (c18 .loop .inv .1) (c17 .next-of .ensures) (c15 .sought .given .1)
-          (minded-recalled (lists-fits (c18 .loop .inv .1)) (c11 .initializer .ensures .1 .1 .1)) (c2 .list .ensures),
-      default-kept (c18 .loop .inv .2)
-          (c18 .loop .inv .3) (c11 .initializer .ensures .1 .1 .0),
-      used-after _ _ (c18 .loop .inv .3) (c11 .initializer .ensures .1 .0) (c5 .step .given .1),
+      lists-next (loop .loop .inv .1) (c17 .next-of .ensures) (c15 .sought .given .1)
+          (minded-recalled (lists-fits (loop .loop .inv .1)) (c11 .initializer .ensures .1 .1 .1)) (c2 .list .ensures),
+      default-kept (loop .loop .inv .2)
+          (loop .loop .inv .3) (c11 .initializer .ensures .1 .1 .0),
+      used-after _ _ (loop .loop .inv .3) (c11 .initializer .ensures .1 .0) (c5 .step .given .1),
     )
 
 list-requires : tie.Need-list-requires Inv-loop μ-loop
 list-requires c κs =
     let c8 = c .before .before .before .before .before .before .before .before in
-    let c15 = c8 .before .before .before .before .before .before .before in
-    let c20 = c15 .before .before .before .before .before in
-    (c8 .initializer .ensures .1 .1 .1 .recalls .both, (minded-recalled (lists-fits (c15 .loop .inv .1)) (c8 .initializer .ensures .1 .1 .1) .held .fits, c20 .pre .0))
+    let loop = c8 .before .before .before .before .before .before .before in
+    let entry = loop .before .before .before .before .before in
+    (c8 .initializer .ensures .1 .1 .1 .recalls .both, (minded-recalled (lists-fits (loop .loop .inv .1)) (c8 .initializer .ensures .1 .1 .1) .held .fits, entry .pre .0))
 
 pub initializers-spec : {M : Type 1} → statement M
 initializers-spec =

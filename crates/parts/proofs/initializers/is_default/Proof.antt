@@ -11,21 +11,21 @@ returns-2 : tie.Need-returns-2
 returns-2 c =
     let c1 = c .before in
     let c2 = c1 .before in
-    let c7 = c2 .before .before .before .before .before in
-    default-no-input _ _ _ _ _ (not-false _ (c2 .if1 .left)) (c7 .pre .1 .0) (c1 .sees .ensures) (not-true _ (c .if2 .taken))
+    let entry = c2 .before .before .before .before .before in
+    default-no-input _ _ _ _ _ (not-false _ (c2 .if1 .left)) (entry .pre .1 .0) (c1 .sees .ensures) (not-true _ (c .if2 .taken))
 
 returns-3 : tie.Need-returns-3
 returns-3 c =
     let c1 = c .before in
     let c2 = c1 .before in
     let c3 = c2 .before in
-    let c8 = c3 .before .before .before .before .before in
-    default-input _ _ _ _ _ (not-false _ (c3 .if1 .left)) (c8 .pre .1 .0) (c2 .sees .ensures) (not-false _ (c1 .if2 .left)) (c .is-repeated .ensures)
+    let entry = c3 .before .before .before .before .before in
+    default-input _ _ _ _ _ (not-false _ (c3 .if1 .left)) (entry .pre .1 .0) (c2 .sees .ensures) (not-false _ (c1 .if2 .left)) (c .is-repeated .ensures)
 
 is-repeated-requires : tie.Need-is-repeated-requires
 is-repeated-requires c κs =
-    let c7 = c .before .before .before .before .before .before .before in
-    (c7 .pre .0 .both .fits, c7 .pre .1 .1)
+    let entry = c .before .before .before .before .before .before .before in
+    (entry .pre .0 .both .fits, entry .pre .1 .1)
 
 pub is-default-spec : {M : Type 1} → statement M
 is-default-spec =

@@ -7,8 +7,8 @@ use Rattle.parts.proofs.initializers.is_repeated.Tie as tie
 is-listed-requires : tie.Need-is-listed-requires
 unfolding earlierIn
 is-listed-requires c κs =
-    let c4 = c .before .before .before .before in
-    (rw (others-lent _ _) (c4 .pre .1 .0), c4 .pre .1 .1)
+    let entry = c .before .before .before .before in
+    (rw (others-lent _ _) (entry .pre .1 .0), entry .pre .1 .1)
 
 returns : tie.Need-returns
 unfolding earlierIn

@@ -5,8 +5,8 @@ use Rattle.parts.proofs.nodes.attribute_head.Tie as tie
 
 attribute-rules-requires : tie.Need-attribute-rules-requires
 attribute-rules-requires c κs =
-    let c3 = c .before .before .before in
-    rw (others-lent _ _) (c3 .pre .1)
+    let entry = c .before .before .before in
+    rw (others-lent _ _) (entry .pre .1)
 
 pub attribute-head-spec : {M : Type 1} → statement M
 attribute-head-spec =

@@ -13,13 +13,15 @@ returns : tie.Need-returns
 returns c =
     let c1 = c .before in
     let c2 = c1 .before in
-    let c6 = c2 .before .before .before .before in
-    (c .stopped .ensures .0 _ _ ∙ closing-none _ _ _ _ (c2 .has .ensures) (not-true _ (c1 .if1 .taken)), (c .stopped .ensures .1 _, (keeps-all _ _, recalled-none (c6 .pre .1 .1 .1))))
+    let entry = c2 .before .before .before .before in (
+      c .stopped .ensures .0 _ _ ∙ closing-none _ _ _ _ (c2 .has .ensures) (not-true _ (c1 .if1 .taken)),
+      (c .stopped .ensures .1 _, (keeps-all _ _, recalled-none (entry .pre .1 .1 .1))),
+    )
 
 node-outputs-requires : tie.Need-node-outputs-requires
 node-outputs-requires c κs =
-    let c7 = c .before .before .before .before .before .before .before in
-    (c7 .pre .0, (c7 .pre .1 .0, c7 .pre .1 .1 .1))
+    let entry = c .before .before .before .before .before .before .before in
+    (entry .pre .0, (entry .pre .1 .0, entry .pre .1 .1 .1))
 
 returns-2 : tie.Need-returns-2
 returns-2 c =
@@ -31,8 +33,13 @@ returns-2 c =
 add-t15 : tie.Need-add-t15
 unfolding walkIn
 add-t15 c =
-    let still = closing-still _ _ _ _ (c .before .before .before .before .before .before .before .before .before .before .before .before .has .ensures) (not-false _ (c .before .before .before .before .before .before .before .before .before .before .before .if1 .left)) _ _ (c .before .before .before .before .before .before .before .before .node-outputs .ensures .0) (c .before .before .step .given .1) in
-    let low = c .before .before .before .before .before .before .before .before .before .before .before .before .before .before .before .before .pre .1 .1 .0 in
+    let c2 = c .before .before in
+    let c8 = c2 .before .before .before .before .before .before in
+    let c11 = c8 .before .before .before in
+    let c12 = c11 .before in
+    let entry = c12 .before .before .before .before in
+    let still = closing-still _ _ _ _ (c12 .has .ensures) (not-false _ (c11 .if1 .left)) _ _ (c8 .node-outputs .ensures .0) (c2 .step .given .1) in
+    let low = entry .pre .1 .1 .0 in
     omega arith
 
 returns-3 : tie.Need-returns-3
@@ -41,8 +48,10 @@ returns-3 c =
     let c2 = c .before .before in
     let c8 = c2 .before .before .before .before .before .before in
     let c11 = c8 .before .before .before in
-    let c12 = c11 .before in
-    (closing-went _ _ _ _ (c12 .has .ensures) (not-false _ (c11 .if1 .left)) _ _ (c8 .node-outputs .ensures .0) (c2 .step .given .1), (subst (grows _) (c2 .step .given .1) (c8 .node-outputs .ensures .1 .0), c8 .node-outputs .ensures .1 .1))
+    let c12 = c11 .before in (
+      closing-went _ _ _ _ (c12 .has .ensures) (not-false _ (c11 .if1 .left)) _ _ (c8 .node-outputs .ensures .0) (c2 .step .given .1),
+      (subst (grows _) (c2 .step .given .1) (c8 .node-outputs .ensures .1 .0), c8 .node-outputs .ensures .1 .1),
+    )
 
 pub closing-spec : {M : Type 1} → statement M
 closing-spec =

@@ -5,8 +5,8 @@ use Rattle.parts.proofs.nodes.head.Tie as tie
 
 node-head-requires : tie.Need-node-head-requires
 node-head-requires c κs =
-    let c4 = c .before .before .before .before in
-    rw (others-lent _ _) (c4 .pre .1)
+    let entry = c .before .before .before .before in
+    rw (others-lent _ _) (entry .pre .1)
 
 pub head-spec : {M : Type 1} → statement M
 head-spec =

@@ -15,8 +15,8 @@ returns-2 c =
 
 head-requires : tie.Need-head-requires
 head-requires c κs =
-    let c3 = c .before .before .before in
-    (c3 .pre .0 .both .fits, c3 .pre .1)
+    let entry = c .before .before .before in
+    (entry .pre .0 .both .fits, entry .pre .1)
 
 pub node-rules-spec : {M : Type 1} → statement M
 node-rules-spec =

@@ -8,28 +8,42 @@ returns : tie.Need-returns
 returns c =
     let c1 = c .before in
     let c3 = c1 .before .before in
-    let c7 = c3 .before .before .before .before in
-    let d = opening-refused _ _ _ _ _ (c3 .graph-rules .ensures) (c1 .enum-told2 .given .1) (c .standing .ensures) in (d .0, (d .1 .0, (d .1 .1, minded-none (c7 .pre .1 .1 .0) (c7 .pre .1 .1 .1 .0))))
+    let entry = c3 .before .before .before .before in
+    let d = opening-refused _ _ _ _ _ (c3 .graph-rules .ensures) (c1 .enum-told2 .given .1) (c .standing .ensures) in
+    (d .0, (d .1 .0, (d .1 .1, minded-none (entry .pre .1 .1 .0) (entry .pre .1 .1 .1 .0))))
 
 inputs-requires : tie.Need-inputs-requires
 inputs-requires c κs =
-    let c8 = c .before .before .before .before .before .before .before .before in
-    (c8 .pre .0, (c8 .pre .1 .0, c8 .pre .1 .1 .0))
+    let entry = c .before .before .before .before .before .before .before .before in
+    (entry .pre .0, (entry .pre .1 .0, entry .pre .1 .1 .0))
 
 returns-2 : tie.Need-returns-2
 returns-2 c =
     let c6 = c .before .before .before .before .before .before in
     let c9 = c6 .before .before .before in
     let c11 = c9 .before .before in
-    let c15 = c11 .before .before .before .before in
-    let d = opening-stops _ _ _ _ _ (c11 .graph-rules .ensures) (c9 .enum-told .given .1) _ _ (c6 .inputs .ensures .0) (c6 .inputs .ensures .1 .0) (c6 .inputs .ensures .1 .1 .0) (c .enum-told3 .given .1) in (d .0, (d .1 .0, (d .1 .1, minded-recalled (c15 .pre .1 .1 .1 .0) (c6 .inputs .ensures .1 .1 .1))))
+    let entry = c11 .before .before .before .before in
+    let d = opening-stops _ _ _ _ _ (c11 .graph-rules .ensures) (c9 .enum-told .given .1) _ _ (c6 .inputs .ensures .0) (c6 .inputs .ensures .1 .0)
+    (c6 .inputs .ensures .1 .1 .0) (c .enum-told3 .given .1) in
+    (d .0, (d .1 .0, (d .1 .1, minded-recalled (entry .pre .1 .1 .1 .0) (c6 .inputs .ensures .1 .1 .1))))
 
 initializers-requires : tie.Need-initializers-requires
 initializers-requires c κs =
     let c3 = c .before .before .before in
     let c9 = c3 .before .before .before .before .before .before in
-    let c18 = c9 .before .before .before .before .before .before .before .before .before in
-    (c18 .pre .0, (c18 .pre .1 .0, (c9 .inputs .ensures .1 .1 .1 .recalls, (inputs-defaultable _ (c18 .args .cells .now) _ (c18 .args .p) _ _ _ (c9 .inputs .ensures .0) (c3 .step .given .1) (c18 .pre .1 .1 .1 .1), minded-recalled (c18 .pre .1 .1 .1 .0) (c9 .inputs .ensures .1 .1 .1) .held .fits))))
+    let entry = c9 .before .before .before .before .before .before .before .before .before in (
+      entry .pre .0,
+      (
+        entry .pre .1 .0,
+        (
+          c9 .inputs .ensures .1 .1 .1 .recalls,
+          (
+            inputs-defaultable _ (entry .args .cells .now) _ (entry .args .p) _ _ _ (c9 .inputs .ensures .0) (c3 .step .given .1) (entry .pre .1 .1 .1 .1),
+            minded-recalled (entry .pre .1 .1 .1 .0) (c9 .inputs .ensures .1 .1 .1) .held .fits,
+          ),
+        ),
+      ),
+    )
 
 returns-3 : tie.Need-returns-3
 returns-3 c =
@@ -38,8 +52,13 @@ returns-3 c =
     let c14 = c8 .before .before .before .before .before .before in
     let c17 = c14 .before .before .before in
     let c19 = c17 .before .before in
-    let c23 = c19 .before .before .before .before in
-    let d = opening-goes _ _ _ _ _ (c19 .graph-rules .ensures) (c17 .enum-told .given .1) _ _ (c14 .inputs .ensures .0) (c14 .inputs .ensures .1 .0) (c14 .inputs .ensures .1 .1 .0) (c8 .step .given .1) _ _ (c4 .initializers .ensures .0) (c4 .initializers .ensures .1 .0) (c4 .initializers .ensures .1 .1 .0) in (d .0, (d .1 .0, (d .1 .1, minded-then (minded-recalled (c23 .pre .1 .1 .1 .0) (c14 .inputs .ensures .1 .1 .1)) (c4 .initializers .ensures .1 .1 .1))))
+    let entry = c19 .before .before .before .before in
+    let d = opening-goes _ _ _ _ _ (c19 .graph-rules .ensures) (c17 .enum-told .given .1) _ _ (c14 .inputs .ensures .0) (c14 .inputs .ensures .1 .0)
+    (c14 .inputs .ensures .1 .1 .0) (c8 .step .given .1) _ _ (c4 .initializers .ensures .0) (c4 .initializers .ensures .1 .0)
+    (c4 .initializers .ensures .1 .1 .0) in (
+      d .0,
+      (d .1 .0, (d .1 .1, minded-then (minded-recalled (entry .pre .1 .1 .1 .0) (c14 .inputs .ensures .1 .1 .1)) (c4 .initializers .ensures .1 .1 .1))),
+    )
 
 pub opening-spec : {M : Type 1} → statement M
 opening-spec =

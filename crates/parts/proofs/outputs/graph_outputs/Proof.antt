@@ -14,7 +14,9 @@ use Rattle.parts.proofs.outputs.graph_outputs.Statement.{statement}
 use Rattle.parts.proofs.outputs.graph_outputs.Tie as tie
 
 abbrev Inv-loop : tie.InvT-loop
-Inv-loop model cells extra seed used main c₀ c = Along model Graph·output (c₀ .end) (output model (plain main) (scopeIn model cells used)) (each (output model (plain main) (scopeIn model cells used)) tt (allFrom model Graph·output (c₀ .end) (c₀ .at))) tt c
+Inv-loop model cells extra seed used main c₀ c =
+    Along model Graph·output (c₀ .end) (output model (plain main) (scopeIn model cells used))
+    (each (output model (plain main) (scopeIn model cells used)) tt (allFrom model Graph·output (c₀ .end) (c₀ .at))) tt c
 
 abbrev μ-loop : tie.MeasureT-loop
 μ-loop model cells extra seed used main c₀ c = c₀ .end - c .at
@@ -26,33 +28,35 @@ returns : tie.Need-returns Inv-loop μ-loop
 unfolding rulingSays
 returns c =
     let c2 = c .before .before in
-    let c3 = c2 .before in
-    let c4 = c3 .before in
-    λ k e. sym (along-done (c3 .loop .inv) (c2 .next-of .ensures) (c .enum-told .given .1)) ∙ along-contents _ _ _ _ _ (c4 .contents .ensures) ∙ outputs-any _ _ _ k e _
+    let loop = c2 .before in
+    let c4 = loop .before in
+    λ k e. sym (along-done (loop .loop .inv) (c2 .next-of .ensures) (c .enum-told .given .1)) ∙ along-contents _ _ _ _ _ (c4 .contents .ensures) ∙ outputs-any _ _ _ k e _
 
 returns-2 : tie.Need-returns-2 Inv-loop μ-loop
 returns-2 c =
     let c2 = c .before .before in
     let c4 = c2 .before .before in
     let c6 = c4 .before .before in
-    let c7 = c6 .before in
-    let c8 = c7 .before in
-    λ k e. rule-stops (c7 .loop .inv) (c6 .next-of .ensures) (c4 .sought .given .1) (c2 .graph-output .ensures _ refl) (c .enum-told3 .given .1) ∙ along-contents _ _ _ _ _ (c8 .contents .ensures) ∙ outputs-any _ _ _ k e _
+    let loop = c6 .before in
+    let c8 = loop .before in
+    λ k e. rule-stops (loop .loop .inv) (c6 .next-of .ensures) (c4 .sought .given .1) (c2 .graph-output .ensures _ refl) (c .enum-told3 .given .1)
+    ∙ along-contents _ _ _ _ _ (c8 .contents .ensures)
+    ∙ outputs-any _ _ _ k e _
 
 loop-less : tie.Need-loop-less Inv-loop μ-loop
 loop-less c =
     let c4 = c .before .before .before .before in
     let c6 = c4 .before .before in
-    let c7 = c6 .before in
-    along-falls (c7 .loop .inv) (c6 .next-of .ensures) (c4 .sought .given .1)
+    let loop = c6 .before in
+    along-falls (loop .loop .inv) (c6 .next-of .ensures) (c4 .sought .given .1)
 
 loop-again : tie.Need-loop-again Inv-loop μ-loop
 loop-again c =
     let c2 = c .before .before in
     let c4 = c2 .before .before in
     let c6 = c4 .before .before in
-    let c7 = c6 .before in
-    rule-goes (c7 .loop .inv) (c6 .next-of .ensures) (c4 .sought .given .1) (c2 .graph-output .ensures _ refl) (c .enum-told2 .given .1)
+    let loop = c6 .before in
+    rule-goes (loop .loop .inv) (c6 .next-of .ensures) (c4 .sought .given .1) (c2 .graph-output .ensures _ refl) (c .enum-told2 .given .1)
 
 pub graph-outputs-spec : {M : Type 1} → statement M
 graph-outputs-spec =

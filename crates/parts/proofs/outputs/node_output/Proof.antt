@@ -13,8 +13,8 @@ returns : tie.Need-returns
 unfolding stepSays grows
 returns c =
     let c1 = c .before in
-    let c5 = c1 .before .before .before .before in
-    (output-out _ _ _ _ (c1 .text .ensures) (c .if1 .taken), (omega arith, (keeps-all _ _, recalled-none (c5 .pre .1 .1 .1))))
+    let entry = c1 .before .before .before .before in
+    (output-out _ _ _ _ (c1 .text .ensures) (c .if1 .taken), (omega arith, (keeps-all _ _, recalled-none (entry .pre .1 .1 .1))))
 
 returns-2 : tie.Need-returns-2
 returns-2 c =
@@ -22,8 +22,10 @@ returns-2 c =
     let c2 = c1 .before in
     let c3 = c2 .before in
     let c4 = c3 .before in
-    let c8 = c4 .before .before .before .before in
-    (c .stopped .ensures .0 _ _ ∙ output-bad _ _ _ _ (c4 .text .ensures) (c3 .if1 .left) (c2 .is-identifier .ensures) (not-true _ (c1 .if2 .taken)), (c .stopped .ensures .1 _, (keeps-all _ _, recalled-none (c8 .pre .1 .1 .1))))
+    let entry = c4 .before .before .before .before in (
+      c .stopped .ensures .0 _ _ ∙ output-bad _ _ _ _ (c4 .text .ensures) (c3 .if1 .left) (c2 .is-identifier .ensures) (not-true _ (c1 .if2 .taken)),
+      (c .stopped .ensures .1 _, (keeps-all _ _, recalled-none (entry .pre .1 .1 .1))),
+    )
 
 returns-3 : tie.Need-returns-3
 returns-3 c =
@@ -32,8 +34,11 @@ returns-3 c =
     let c8 = c7 .before in
     let c9 = c8 .before in
     let c10 = c9 .before in
-    let c14 = c10 .before .before .before .before in
-    (c4 .define .ensures .0 ∙ output-new _ _ _ _ (c10 .text .ensures) (c9 .if1 .left) (c8 .is-identifier .ensures) (not-false _ (c7 .if2 .left)) (c14 .pre .1 .0), c4 .define .ensures .1)
+    let entry = c10 .before .before .before .before in (
+      c4 .define .ensures .0
+          ∙ output-new _ _ _ _ (c10 .text .ensures) (c9 .if1 .left) (c8 .is-identifier .ensures) (not-false _ (c7 .if2 .left)) (entry .pre .1 .0),
+      c4 .define .ensures .1,
+    )
 
 pub node-output-spec : {M : Type 1} → statement M
 node-output-spec =

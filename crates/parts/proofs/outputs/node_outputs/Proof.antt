@@ -24,34 +24,35 @@ abbrev μ-loop : tie.MeasureT-loop
 
 loop-holds : tie.Need-loop-holds Inv-loop μ-loop
 loop-holds c =
-    let c4 = c .before .before .before .before in
-    (adding-start _ _ _ _ _ _ (along-start _ _ _ _ _), recalled-none (c4 .pre .1 .1))
+    let entry = c .before .before .before .before in
+    (adding-start _ _ _ _ _ _ (along-start _ _ _ _ _), recalled-none (entry .pre .1 .1))
 
 same-length-2 : tie.Need-same-length-2 Inv-loop μ-loop
 same-length-2 c =
-    let c3 = c .before .before .before in
-    c3 .loop .inv .1 .size
+    let loop = c .before .before .before in
+    loop .loop .inv .1 .size
 
 returns : tie.Need-returns Inv-loop μ-loop
 returns c =
     let c2 = c .before .before in
-    let c3 = c2 .before in
-    let c4 = c3 .before in
-    let d = adding-done (c3 .loop .inv .0) (c2 .next-of .ensures) (c .enum-told .given .1) in (d .0 ∙ along-contents _ _ _ _ _ (c4 .contents .ensures), (d .1 .0, (d .1 .1, c3 .loop .inv .1)))
+    let loop = c2 .before in
+    let c4 = loop .before in
+    let d = adding-done (loop .loop .inv .0) (c2 .next-of .ensures) (c .enum-told .given .1) in
+    (d .0 ∙ along-contents _ _ _ _ _ (c4 .contents .ensures), (d .1 .0, (d .1 .1, loop .loop .inv .1)))
 
 node-output-requires : tie.Need-node-output-requires Inv-loop μ-loop
 node-output-requires c κs =
     let c3 = c .before .before .before in
     let c5 = c3 .before .before in
-    let c6 = c5 .before in
-    let c7 = c6 .before in
-    let c11 = c7 .before .before .before .before in (
-      adding-placed (c6 .loop .inv .0) (c5 .next-of .ensures) (c3 .sought .given .1) _ (c11 .pre .0) (contents-inside _ _ (c7 .contents .ensures)
-          (c11 .pre .1 .0)),
+    let loop = c5 .before in
+    let c7 = loop .before in
+    let entry = c7 .before .before .before .before in (
+      adding-placed (loop .loop .inv .0) (c5 .next-of .ensures) (c3 .sought .given .1) _ (entry .pre .0) (contents-inside _ _ (c7 .contents .ensures)
+          (entry .pre .1 .0)),
       (
-        adding-named (c6 .loop .inv .0) (c5 .next-of .ensures) (c3 .sought .given .1)
-            (contents-inside _ _ (c7 .contents .ensures) (c11 .pre .1 .0)),
-        (c11 .pre .0, c6 .loop .inv .1 .recalls),
+        adding-named (loop .loop .inv .0) (c5 .next-of .ensures) (c3 .sought .given .1)
+            (contents-inside _ _ (c7 .contents .ensures) (entry .pre .1 .0)),
+        (entry .pre .0, loop .loop .inv .1 .recalls),
       ),
     )
 
@@ -60,16 +61,20 @@ returns-2 c =
     let c6 = c .before .before .before .before .before .before in
     let c10 = c6 .before .before .before .before in
     let c12 = c10 .before .before in
-    let c13 = c12 .before in
-    let c14 = c13 .before in
-    let d = adding-stops (c13 .loop .inv .0) (c12 .next-of .ensures) (c10 .sought .given .1) _ (c6 .node-output .ensures .0) (c6 .node-output .ensures .1 .0) (c6 .node-output .ensures .1 .1 .0) (c .enum-told2 .given .1) in (d .0 ∙ along-contents _ _ _ _ _ (c14 .contents .ensures), (d .1 .0, (d .1 .1, recalled-then (c13 .loop .inv .1) (c6 .node-output .ensures .1 .1 .1))))
+    let loop = c12 .before in
+    let c14 = loop .before in
+    let d = adding-stops (loop .loop .inv .0) (c12 .next-of .ensures) (c10 .sought .given .1) _ (c6 .node-output .ensures .0)
+    (c6 .node-output .ensures .1 .0) (c6 .node-output .ensures .1 .1 .0) (c .enum-told2 .given .1) in (
+      d .0 ∙ along-contents _ _ _ _ _ (c14 .contents .ensures),
+      (d .1 .0, (d .1 .1, recalled-then (loop .loop .inv .1) (c6 .node-output .ensures .1 .1 .1))),
+    )
 
 loop-less : tie.Need-loop-less Inv-loop μ-loop
 loop-less c =
     let c11 = c .before .before .before .before .before .before .before .before .before .before .before in
     let c13 = c11 .before .before in
-    let c14 = c13 .before in
-    adding-falls (c14 .loop .inv .0) (c13 .next-of .ensures) (c11 .sought .given .1)
+    let loop = c13 .before in
+    adding-falls (loop .loop .inv .0) (c13 .next-of .ensures) (c11 .sought .given .1)
 
 loop-again : tie.Need-loop-again Inv-loop μ-loop
 loop-again c =
@@ -77,8 +82,11 @@ loop-again c =
     let c7 = c1 .before .before .before .before .before .before in
     let c11 = c7 .before .before .before .before in
     let c13 = c11 .before .before in
-    let c14 = c13 .before in
-    (adding-goes (c14 .loop .inv .0) (c13 .next-of .ensures) (c11 .sought .given .1) _ (c7 .node-output .ensures .0) (c7 .node-output .ensures .1 .0) (c7 .node-output .ensures .1 .1 .0) (c1 .step .given .1), recalled-then (c14 .loop .inv .1) (c7 .node-output .ensures .1 .1 .1))
+    let loop = c13 .before in (
+      adding-goes (loop .loop .inv .0) (c13 .next-of .ensures) (c11 .sought .given .1) _ (c7 .node-output .ensures .0) (c7 .node-output .ensures .1 .0)
+          (c7 .node-output .ensures .1 .1 .0) (c1 .step .given .1),
+      recalled-then (loop .loop .inv .1) (c7 .node-output .ensures .1 .1 .1),
+    )
 
 pub node-outputs-spec : {M : Type 1} → statement M
 node-outputs-spec =

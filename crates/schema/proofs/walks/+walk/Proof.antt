@@ -1,4 +1,5 @@
-use Rattle.schema.proofs.WalkLaws.{Going, Tagged, Turned, going-start, walk-done, walk-tag, walk-tagged, walk-wire, walk-repeat, walk-value, walk-turned, turn-falls, inner-falls, walk-closed, walk-deep, walk-inner, walk-bad, deeper-low}
+use Rattle.schema.proofs.WalkLaws.{Going, Tagged, Turned, going-start, walk-done, walk-tag, walk-tagged, walk-wire, walk-repeat, walk-value}
+use Rattle.schema.proofs.WalkLaws.{walk-turned, turn-falls, inner-falls, walk-closed, walk-deep, walk-inner, walk-bad, deeper-low}
 use Rattle.schema.proofs.SlotLaws.{slot-low}
 use Rattle.schema.specs.Answers.{walkSays}
 use mathlib.Core.Path.{_∙_}
@@ -37,7 +38,34 @@ abbrev walk-below : ℕ → In 1 walk-kinds.ps
 walk-below t = and 1 walk-kinds.ps (falls 1 walk-kinds.ps _<_ μ-walk t) walk.Pre
 
 abbrev walk-claims : ℕ → walk-lts.Claims
-walk-claims t = (tag-reads.Asked, tag-reads.Learnt, tag-fault-reads.Asked, tag-fault-reads.Learnt, row-of-reads.Asked, row-of-reads.Learnt, wire-fits-reads.Asked, wire-fits-reads.Learnt, refused-reads.Asked, refused-reads.Learnt, slot-of-reads.Asked, slot-of-reads.Learnt, is-taken-reads.Asked, is-taken-reads.Learnt, value-reads.Asked, value-reads.Learnt, field-fault-reads.Asked, field-fault-reads.Learnt, content-of-reads.Asked, content-of-reads.Learnt, is-too-deep-reads.Asked, is-too-deep-reads.Learnt, depth-in-reads.Asked, depth-in-reads.Learnt, walk-below t, walk.Post)
+walk-claims t = (
+  tag-reads.Asked,
+  tag-reads.Learnt,
+  tag-fault-reads.Asked,
+  tag-fault-reads.Learnt,
+  row-of-reads.Asked,
+  row-of-reads.Learnt,
+  wire-fits-reads.Asked,
+  wire-fits-reads.Learnt,
+  refused-reads.Asked,
+  refused-reads.Learnt,
+  slot-of-reads.Asked,
+  slot-of-reads.Learnt,
+  is-taken-reads.Asked,
+  is-taken-reads.Learnt,
+  value-reads.Asked,
+  value-reads.Learnt,
+  field-fault-reads.Asked,
+  field-fault-reads.Learnt,
+  content-of-reads.Asked,
+  content-of-reads.Learnt,
+  is-too-deep-reads.Asked,
+  is-too-deep-reads.Learnt,
+  depth-in-reads.Asked,
+  depth-in-reads.Learnt,
+  walk-below t,
+  walk.Post,
+)
 
 abbrev walk-Inv-loop : walk-lts.InvT-loop
 walk-Inv-loop s kind depth start end seen₀ c₀ seen c = Going s kind depth start end seen c
@@ -46,13 +74,39 @@ abbrev walk-μ-loop : walk-lts.MeasureT-loop
 walk-μ-loop s kind depth start end seen₀ c₀ seen c = end - c .at
 
 -- what is known once the row of a field is known, and once the field has been read
-tagging : (t : ℕ) (c : walk-lts.After-row-of (walk-claims t) (walk-at t) walk.Post walk-Inv-loop walk-μ-loop) →
-    (let a = c .before .before .before .before .before .before .before .before .args in let l = c .before .before .before .before .before .before .loop in Tagged (now (a .s)) (a .kind) (a .depth) (a .start) (a .end) (l .seen) (l .c) (c .before .before .tagged .given .0 .0) (c .row-of .result))
-tagging t c = walk-tagged (c .before .before .before .before .before .before .loop .inv) (c .before .before .before .before .before .if1 .left) _ (c .before .before .before .before .tag .ensures) (c .before .before .tagged .given .1) (c .row-of .ensures)
+tagging : (t : ℕ) (c : walk-lts.After-row-of (walk-claims t) (walk-at t) walk.Post walk-Inv-loop walk-μ-loop)
+    → (let c2 = c .before .before in
+    let c6 = c2 .before .before .before .before in
+    let l = c6 .loop in
+    let a = c6 .before .before .args in
+    Tagged (now (a .s)) (a .kind) (a .depth) (a .start) (a .end) (l .seen) (l .c) (c2 .tagged .given .0 .0) (c .row-of .result))
+tagging t c =
+    let c2 = c .before .before in
+    let c4 = c2 .before .before in
+    let c5 = c4 .before in
+    let loop = c5 .before in
+    walk-tagged (loop .loop .inv) (c5 .if1 .left) _ (c4 .tag .ensures) (c2 .tagged .given .1) (c .row-of .ensures)
 
-turned : (t : ℕ) (c : walk-lts.After-known-told2 (walk-claims t) (walk-at t) walk.Post walk-Inv-loop walk-μ-loop) →
-    (let a = c .before .before .before .before .before .before .before .before .before .before .before .before .before .before .before .before .before .before .args in let l = c .before .before .before .before .before .before .before .before .before .before .before .before .before .before .before .before .loop in Turned (now (a .s)) (a .kind) (a .depth) (a .start) (a .end) (l .seen) (l .c) (c .before .before .before .before .before .before .before .before .before .before .row-of .result) (c .before .before .before .before .before .before .before .slot-of .result) (c .before .read .given .0 .0) (c .before .read .given .0 .1 .0))
-turned t c = walk-turned (tagging t (c .before .before .before .before .before .before .before .before .before .before)) (c .before .before .before .before .before .before .before .before .before .wire-fits .ensures) (not-false _ (c .before .before .before .before .before .before .before .before .if2 .left)) (c .before .before .before .before .before .before .before .slot-of .ensures) (c .before .before .before .before .before .is-taken .ensures) (c .before .before .before .before .if3 .left) _ (c .before .before .before .value .ensures) (c .before .read .given .1)
+turned : (t : ℕ) (c : walk-lts.After-known-told2 (walk-claims t) (walk-at t) walk.Post walk-Inv-loop walk-μ-loop)
+    → (let c1 = c .before in
+    let c7 = c1 .before .before .before .before .before .before in
+    let c10 = c7 .before .before .before in
+    let c16 = c10 .before .before .before .before .before .before in
+    let l = c16 .loop in
+    let a = c16 .before .before .args in
+    Turned (now (a .s)) (a .kind) (a .depth) (a .start) (a .end) (l .seen) (l .c) (c10 .row-of .result) (c7 .slot-of .result) (c1 .read .given .0 .0)
+    (c1 .read .given .0 .1 .0))
+turned t c =
+    let c1 = c .before in
+    let c3 = c1 .before .before in
+    let c4 = c3 .before in
+    let c5 = c4 .before in
+    let c7 = c5 .before .before in
+    let c8 = c7 .before in
+    let c9 = c8 .before in
+    let c10 = c9 .before in
+    walk-turned (tagging t c10) (c9 .wire-fits .ensures) (not-false _ (c8 .if2 .left)) (c7 .slot-of .ensures) (c5 .is-taken .ensures) (c4 .if3 .left)
+    _ (c3 .value .ensures) (c1 .read .given .1)
 
 walk-loop-holds : (t : ℕ) → walk-lts.Need-loop-holds (walk-claims t) (walk-at t) walk.Post walk-Inv-loop walk-μ-loop
 walk-loop-holds t c = going-start _ _ _ _ _
@@ -62,16 +116,38 @@ unfolding walkSays
 walk-returns t c = walk-done (c .before .loop .inv) (c .if1 .taken)
 
 walk-returns-2 : (t : ℕ) → walk-lts.Need-returns-2 (walk-claims t) (walk-at t) walk.Post walk-Inv-loop walk-μ-loop
-walk-returns-2 t c = walk-tag (c .before .before .before .before .before .loop .inv) (c .before .before .before .before .if1 .left) _ (c .before .before .before .tag .ensures) _ (c .before .enum-told .given .1) (c .tag-fault .ensures)
+walk-returns-2 t c =
+    let c1 = c .before in
+    let c3 = c1 .before .before in
+    let c4 = c3 .before in
+    let loop = c4 .before in
+    walk-tag (loop .loop .inv) (c4 .if1 .left) _ (c3 .tag .ensures) _ (c1 .enum-told .given .1) (c .tag-fault .ensures)
 
 walk-returns-3 : (t : ℕ) → walk-lts.Need-returns-3 (walk-claims t) (walk-at t) walk.Post walk-Inv-loop walk-μ-loop
 walk-returns-3 t c = c .refused .ensures ∙ walk-wire (tagging t (c .before .before .before)) (c .before .before .wire-fits .ensures) (not-true _ (c .before .if2 .taken))
 
 walk-returns-4 : (t : ℕ) → walk-lts.Need-returns-4 (walk-claims t) (walk-at t) walk.Post walk-Inv-loop walk-μ-loop
-walk-returns-4 t c = c .refused2 .ensures ∙ walk-repeat (tagging t (c .before .before .before .before .before .before .before)) (c .before .before .before .before .before .before .wire-fits .ensures) (not-false _ (c .before .before .before .before .before .if2 .left)) (c .before .before .before .before .slot-of .ensures) (c .before .before .is-taken .ensures) (c .before .if3 .taken)
+walk-returns-4 t c =
+    let c1 = c .before in
+    let c2 = c1 .before in
+    let c4 = c2 .before .before in
+    let c5 = c4 .before in
+    let c6 = c5 .before in
+    let c7 = c6 .before in
+    c .refused2 .ensures ∙ walk-repeat (tagging t c7) (c6 .wire-fits .ensures) (not-false _ (c5 .if2 .left)) (c4 .slot-of .ensures) (c2 .is-taken .ensures) (c1 .if3 .taken)
 
 walk-returns-5 : (t : ℕ) → walk-lts.Need-returns-5 (walk-claims t) (walk-at t) walk.Post walk-Inv-loop walk-μ-loop
-walk-returns-5 t c = walk-value (tagging t (c .before .before .before .before .before .before .before .before .before .before)) (c .before .before .before .before .before .before .before .before .before .wire-fits .ensures) (not-false _ (c .before .before .before .before .before .before .before .before .if2 .left)) (c .before .before .before .before .before .before .before .slot-of .ensures) (c .before .before .before .before .before .is-taken .ensures) (c .before .before .before .before .if3 .left) _ (c .before .before .before .value .ensures) _ (c .before .enum-told2 .given .1) (c .field-fault .ensures)
+walk-returns-5 t c =
+    let c1 = c .before in
+    let c3 = c1 .before .before in
+    let c4 = c3 .before in
+    let c5 = c4 .before in
+    let c7 = c5 .before .before in
+    let c8 = c7 .before in
+    let c9 = c8 .before in
+    let c10 = c9 .before in
+    walk-value (tagging t c10) (c9 .wire-fits .ensures) (not-false _ (c8 .if2 .left)) (c7 .slot-of .ensures) (c5 .is-taken .ensures) (c4 .if3 .left) _
+    (c3 .value .ensures) _ (c1 .enum-told2 .given .1) (c .field-fault .ensures)
 
 walk-array-write-seen : (t : ℕ) → walk-lts.Need-array-write-seen (walk-claims t) (walk-at t) walk.Post walk-Inv-loop walk-μ-loop
 walk-array-write-seen t c = slot-low _ _ (c .before .before .before .before .before .before .before .slot-of .ensures)
@@ -83,22 +159,55 @@ walk-loop-again : (t : ℕ) → walk-lts.Need-loop-again (walk-claims t) (walk-a
 walk-loop-again t c = walk-closed (turned t (c .before .before .before)) _ (c .before .before .content-of .ensures) (c .enum-told3 .given .1)
 
 walk-returns-6 : (t : ℕ) → walk-lts.Need-returns-6 (walk-claims t) (walk-at t) walk.Post walk-Inv-loop walk-μ-loop
-walk-returns-6 t c = c .refused3 .ensures ∙ walk-deep (turned t (c .before .before .before .before .before .before .before)) _ (c .before .before .before .before .before .before .content-of .ensures) (c .before .before .before .before .inner .given .1) (c .before .before .is-too-deep .ensures) (c .before .if4 .taken)
+walk-returns-6 t c =
+    let c1 = c .before in
+    let c2 = c1 .before in
+    let c4 = c2 .before .before in
+    let c6 = c4 .before .before in
+    let c7 = c6 .before in
+    c .refused3 .ensures ∙ walk-deep (turned t c7) _ (c6 .content-of .ensures) (c4 .inner .given .1) (c2 .is-too-deep .ensures) (c1 .if4 .taken)
 
 walk-depth-in-requires : (t : ℕ) → walk-lts.Need-depth-in-requires (walk-claims t) (walk-at t) walk.Post walk-Inv-loop walk-μ-loop
-walk-depth-in-requires t c κs = c .before .before .before .before .before .before .before .before .before .before .before .before .before .before .before .before .before .before .before .before .before .before .before .before .pre .1
+walk-depth-in-requires t c κs =
+    let c12 = c .before .before .before .before .before .before .before .before .before .before .before .before in
+    let entry = c12 .before .before .before .before .before .before .before .before .before .before .before .before in
+    entry .pre .1
 
 walk-walk-requires : (t : ℕ) → walk-lts.Need-walk-requires (walk-claims t) (walk-at t) walk.Post walk-Inv-loop walk-μ-loop
-walk-walk-requires t c κs = (inner-falls (turned t (c .before .before .before .before .before .before .before)) (c .before .before .before .before .before .before .before .before .before .before .before .before .before .before .before .before .before .before .before .before .before .before .before .before .before .pre .0), deeper-low _ (c .before .before .before .before .before .before .before .before .before .before .before .before .before .before .before .before .before .before .before .before .before .before .before .before .before .pre .1) (c .before .before .is-too-deep .ensures) (c .before .if4 .left) (c .depth-in .ensures))
+walk-walk-requires t c κs =
+    let c1 = c .before in
+    let c2 = c1 .before in
+    let c7 = c2 .before .before .before .before .before in
+    let c16 = c7 .before .before .before .before .before .before .before .before .before in
+    let entry = c16 .before .before .before .before .before .before .before .before .before in
+    (inner-falls (turned t c7) (entry .pre .0), deeper-low _ (entry .pre .1) (c2 .is-too-deep .ensures) (c1 .if4 .left) (c .depth-in .ensures))
 
 walk-loop-less-2 : (t : ℕ) → walk-lts.Need-loop-less-2 (walk-claims t) (walk-at t) walk.Post walk-Inv-loop walk-μ-loop
 walk-loop-less-2 t c = turn-falls (turned t (c .before .before .before .before .before .before .before .before .before .before))
 
 walk-loop-again-2 : (t : ℕ) → walk-lts.Need-loop-again-2 (walk-claims t) (walk-at t) walk.Post walk-Inv-loop walk-μ-loop
-walk-loop-again-2 t c = walk-inner (turned t (c .before .before .before .before .before .before .before .before .before .before)) _ (c .before .before .before .before .before .before .before .before .before .content-of .ensures) (c .before .before .before .before .before .before .before .inner .given .1) (c .before .before .before .before .before .is-too-deep .ensures) (c .before .before .before .before .if4 .left) (c .before .before .before .depth-in .ensures) _ (c .before .before .walk .ensures) (c .enum-told4 .given .1)
+walk-loop-again-2 t c =
+    let c2 = c .before .before in
+    let c3 = c2 .before in
+    let c4 = c3 .before in
+    let c5 = c4 .before in
+    let c7 = c5 .before .before in
+    let c9 = c7 .before .before in
+    let c10 = c9 .before in
+    walk-inner (turned t c10) _ (c9 .content-of .ensures) (c7 .inner .given .1) (c5 .is-too-deep .ensures) (c4 .if4 .left) (c3 .depth-in .ensures) _
+    (c2 .walk .ensures) (c .enum-told4 .given .1)
 
 walk-returns-7 : (t : ℕ) → walk-lts.Need-returns-7 (walk-claims t) (walk-at t) walk.Post walk-Inv-loop walk-μ-loop
-walk-returns-7 t c = walk-bad (turned t (c .before .before .before .before .before .before .before .before .before .before)) _ (c .before .before .before .before .before .before .before .before .before .content-of .ensures) (c .before .before .before .before .before .before .before .inner .given .1) (c .before .before .before .before .before .is-too-deep .ensures) (c .before .before .before .before .if4 .left) (c .before .before .before .depth-in .ensures) _ (c .before .before .walk .ensures) (c .enum-told5 .given .1)
+walk-returns-7 t c =
+    let c2 = c .before .before in
+    let c3 = c2 .before in
+    let c4 = c3 .before in
+    let c5 = c4 .before in
+    let c7 = c5 .before .before in
+    let c9 = c7 .before .before in
+    let c10 = c9 .before in
+    walk-bad (turned t c10) _ (c9 .content-of .ensures) (c7 .inner .given .1) (c5 .is-too-deep .ensures) (c4 .if4 .left) (c3 .depth-in .ensures) _
+    (c2 .walk .ensures) (c .enum-told5 .given .1)
 
 pub +walk-spec : {M : Type 1} → statement M
 +walk-spec = close μ-walk λ t. walk-lts.spec (walk-claims t) (walk-at t) walk.Post

@@ -10,19 +10,19 @@ slice-relend-prefix-remember-name c = c .before .before .pre .0 .fits
 
 slice-aggregate-remember-name : tie.Need-slice-aggregate-remember-name
 slice-aggregate-remember-name c =
-    let c3 = c .before .before .before in
-    sym (length-take-le _ _ (c3 .pre .0 .fits))
+    let entry = c .before .before .before in
+    sym (length-take-le _ _ (entry .pre .0 .fits))
 
 remember-name-requires : tie.Need-remember-name-requires
 remember-name-requires c κs =
-    let c3 = c .before .before .before in
-    (c3 .pre .0 .names, c3 .pre .1)
+    let entry = c .before .before .before in
+    (entry .pre .0 .names, entry .pre .1)
 
 returns : tie.Need-returns
 returns c =
     let c2 = c .before .before in
-    let c6 = c2 .before .before .before .before in
-    remembered-on _ (c6 .pre .0 .fits) (c2 .remember-name .ensures)
+    let entry = c2 .before .before .before .before in
+    remembered-on _ (entry .pre .0 .fits) (c2 .remember-name .ensures)
 
 pub remember-spec : {M : Type 1} → statement M
 remember-spec =

@@ -6,13 +6,13 @@ use Rattle.scope.proofs.remembered.sees.Tie as tie
 
 slice-aggregate-sees-in : tie.Need-slice-aggregate-sees-in
 slice-aggregate-sees-in c =
-    let c5 = c .before .before .before .before .before in
-    sym (length-take-le _ _ (c5 .pre .both .fits))
+    let entry = c .before .before .before .before .before in
+    sym (length-take-le _ _ (entry .pre .both .fits))
 
 sees-in-requires : tie.Need-sees-in-requires
 sees-in-requires c κs =
-    let c5 = c .before .before .before .before .before in
-    c5 .pre .scope
+    let entry = c .before .before .before .before .before in
+    entry .pre .scope
 
 pub sees-spec : {M : Type 1} → statement M
 sees-spec =

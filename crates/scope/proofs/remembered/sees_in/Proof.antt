@@ -20,8 +20,8 @@ returns c =
     let c2 = c1 .before in
     let c3 = c2 .before in
     let c4 = c3 .before in
-    let c5 = c4 .before in
-    search-here (c5 .loop .inv) (omega (arith, c4 .loop-test .taken)) _ (c3 .cell-at .ensures) _ (c2 .name-at .ensures) _ (c1 .same-bytes .ensures) (c .if1 .taken)
+    let loop = c4 .before in
+    search-here (loop .loop .inv) (omega (arith, c4 .loop-test .taken)) _ (c3 .cell-at .ensures) _ (c2 .name-at .ensures) _ (c1 .same-bytes .ensures) (c .if1 .taken)
 
 loop-again : tie.Need-loop-again Inv-loop μ-loop
 loop-again c =
@@ -29,23 +29,23 @@ loop-again c =
     let c2 = c1 .before in
     let c3 = c2 .before in
     let c4 = c3 .before in
-    let c5 = c4 .before in
-    search-next (c5 .loop .inv) (omega (arith, c4 .loop-test .taken)) _ (c3 .cell-at .ensures) _ (c2 .name-at .ensures) _ (c1 .same-bytes .ensures) (c .if1 .left)
+    let loop = c4 .before in
+    search-next (loop .loop .inv) (omega (arith, c4 .loop-test .taken)) _ (c3 .cell-at .ensures) _ (c2 .name-at .ensures) _ (c1 .same-bytes .ensures) (c .if1 .left)
 
 recall-requires : tie.Need-recall-requires Inv-loop μ-loop
 recall-requires c κs =
     let c2 = c .before .before in
-    let c7 = c2 .before .before .before .before .before in
-    (c7 .pre .memory .index, omega (arith, c .loop-test .left, c2 .known .ensures .0))
+    let entry = c2 .before .before .before .before .before in
+    (entry .pre .memory .index, omega (arith, c .loop-test .left, c2 .known .ensures .0))
 
 returns-2 : tie.Need-returns-2 Inv-loop μ-loop
 returns-2 c =
     let c1 = c .before in
     let c2 = c1 .before in
-    let c3 = c2 .before in
-    let c4 = c3 .before in
-    let c9 = c4 .before .before .before .before .before in
-    recall-ends (c9 .pre) (c3 .loop .inv) (omega (arith, c2 .loop-test .left, c4 .known .ensures .0)) (c1 .recall .ensures) (c .since .ensures)
+    let loop = c2 .before in
+    let c4 = loop .before in
+    let entry = c4 .before .before .before .before .before in
+    recall-ends (entry .pre) (loop .loop .inv) (omega (arith, c2 .loop-test .left, c4 .known .ensures .0)) (c1 .recall .ensures) (c .since .ensures)
 
 pub sees-in-spec : {M : Type 1} → statement M
 sees-in-spec =

@@ -21,7 +21,9 @@ loop-less : tie.Need-loop-less Inv-loop μ-loop
 loop-less c = let l = fill-length _ _ _ (c .before .loop .inv .0) (c .before .loop .inv .1) in omega arith
 
 loop-again : tie.Need-loop-again Inv-loop μ-loop
-loop-again c = let l = fill-length _ _ _ (c .before .loop .inv .0) (c .before .loop .inv .1) in (omega arith, fill-turn _ _ _ (c .before .loop .inv .0) (c .before .loop .inv .1) (c .loop-test .taken))
+loop-again c =
+    let l = fill-length _ _ _ (c .before .loop .inv .0) (c .before .loop .inv .1) in
+    (omega arith, fill-turn _ _ _ (c .before .loop .inv .0) (c .before .loop .inv .1) (c .loop-test .taken))
 
 same-length : tie.Need-same-length Inv-loop μ-loop
 same-length c = fill-length _ _ _ (c .before .loop .inv .0) (c .before .loop .inv .1)

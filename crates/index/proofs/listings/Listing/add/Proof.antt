@@ -7,22 +7,22 @@ use Rattle.index.proofs.listings.Listing.add.Tie as tie
 
 returns : tie.Need-returns
 returns c =
-    let c4 = c .before .before .before .before in
-    added-none (c4 .pre .0) (c4 .pre .1 .0) (not-true _ (c .if1 .taken))
+    let entry = c .before .before .before .before in
+    added-none (entry .pre .0) (entry .pre .1 .0) (not-true _ (c .if1 .taken))
 
 returns-2 : tie.Need-returns-2
 returns-2 c =
     let c1 = c .before in
     let c5 = c1 .before .before .before .before in
     let c7 = c5 .before .before in
-    let c11 = c7 .before .before .before .before in
-    added-more (c11 .pre .0) (c11 .pre .1 .0) (c5 .remember-name .ensures) (omega (arith, c .if2 .taken, c1 .known .ensures .0)) (not-false _ (c7 .if1 .left))
+    let entry = c7 .before .before .before .before in
+    added-more (entry .pre .0) (entry .pre .1 .0) (c5 .remember-name .ensures) (omega (arith, c .if2 .taken, c1 .known .ensures .0)) (not-false _ (c7 .if1 .left))
 
 returns-3 : tie.Need-returns-3
 returns-3 c =
     let c5 = c .before .before .before .before .before in
-    let c11 = c5 .before .before .before .before .before .before in
-    added-full (c11 .pre .0) (c11 .pre .1 .0) (c5 .remember-name .ensures)
+    let entry = c5 .before .before .before .before .before .before in
+    added-full (entry .pre .0) (entry .pre .1 .0) (c5 .remember-name .ensures)
 
 pub add-spec : {M : Type 1} → statement M
 add-spec =
