@@ -20,11 +20,11 @@ use Rattle.rules.specs.Walk.{Walk, start, Along, leaving, naming}
 use Rattle.rules.specs.Node.{badValue, body, attribute}
 use Rattle.messages.specs.Earlier.{earlierIn}
 use Rattle.messages.specs.Heads.{passing, after, attributeRules}
-use Rattle.messages.specs.Answers.{namingSays}
+use Rattle.messages.specs.Answers.{namingSays, nameField}
 use Rattle.messages.specs.declared.names.Naming.{Naming}
 use Rattle.messages.specs.declared.names.Naming.the-variants as naming-answer
 use Rattle.messages.proofs.Silent.{silent-rule, silent-last, silent-bind}
-use Rattle.messages.proofs.NameLaws.{empty-none, empty-some}
+use Rattle.messages.proofs.NameLaws.{empty-none, empty-some, nameSays, naming-says}
 
 bodies-pass : (w : Walk) (l : List Field) → each (body passing) w l ≡ pass w
 unfolding each body passing leaving _>>=_
@@ -60,15 +60,15 @@ module _ (model : Bytes) (names : List Bytes) (f : Field) where
   unfolding attribute after message Named
   asked = silent-bind (naming model 22 Attribute·name (message model f)) Named Asked named
 
-  module _ {n : Naming} (e : namingSays model n ≡ naming model 22 Attribute·name (message model f)) where
-    pub attribute-nameless : {r : Refusal} → n ≡ naming-answer.Refused r → silent (namingSays model n) ≡ silent (attribute model passing (after names) f)
-    unfolding namingSays silent _>>=_
-    attribute-nameless {r} k = ap silent (e ∙ sym (says (namingSays model) e k)) ∙ ap (λ (o : Judged Name). o >>= Asked) (says (namingSays model) e k) ∙ sym asked
+  module _ {n : Naming} (e : namingSays n ≡ nameField model 22 Attribute·name (message model f)) where
+    pub attribute-nameless : {r : Refusal} → n ≡ naming-answer.Refused r → silent (namingSays n) ≡ silent (attribute model passing (after names) f)
+    unfolding namingSays nameSays silent _>>=_
+    attribute-nameless {r} k = ap (λ (m : Naming). silent (namingSays m)) k ∙ ap (λ (o : Judged Name). o >>= Asked) (naming-says _ _ _ _ _ e k) ∙ sym asked
 
     module _ {g : Field} (k : n ≡ naming-answer.Named g) where
       named-by : Asked (nameIn model g) ≡ silent (attribute model passing (after names) f)
-      unfolding namingSays _>>=_
-      named-by = ap (λ (o : Judged Name). o >>= Asked) (says (namingSays model) e k) ∙ sym asked
+      unfolding namingSays nameSays _>>=_
+      named-by = ap (λ (o : Judged Name). o >>= Asked) (naming-says _ _ _ _ _ e k) ∙ sym asked
 
       module _ {x : Bytes} (t : x ≡ text model g) {b : Bool} (i : b ≡ member x names) where
         twice : member (text model g) names ≡ b

@@ -13,7 +13,7 @@ use Rattle.wire.specs.Message.{allOf, firstOf, numberOf, placeOf, message, whol
 use Rattle.wire.specs.declared.Refusal.{Refusal}
 use Rattle.wire.specs.declared.Field.{Field}
 use Rattle.wire.specs.declared.outlines.Outline.{Outline}
-use Rattle.wire.specs.Outline.{Starts}
+use Rattle.wire.specs.Outline.{Starts, Outlines}
 use Rattle.wire.proofs.Lists.{no-first}
 use Rattle.wire.proofs.Passing.{pass-same, passed-bind, passed-seq}
 use Rattle.wire.proofs.Refusing.{when-broken, when-kept}
@@ -42,12 +42,14 @@ version-rest n h = simp (le-leb 4 n h)
 
 -- ---- one reading of the model's own fields
 
-pub outlined : (model : Bytes) {m : Field} → m ≡ whole model → {o : Outline} {e f : ℕ} → Starts model m Model·ir-version (o .first) × Starts model m Model·graph (o .second) × Starts model m Model·opset-import (o .third) × Starts model m Model·functions (o .fourth) × Starts model m e (o .fifth) × Starts model m f (o .sixth) → Outlined model o
+pub outlined : (model : Bytes) {m : Field} → m ≡ whole model → {o : Outline} →
+    Outlines model m Model·ir-version Model·graph Model·opset-import Model·functions 0 0 o → Outlined model o
 outlined model em {o} k = record {
   version = subst (λ (m : Field). Starts model m Model·ir-version (o .first)) em (k .0);
   graph = subst (λ (m : Field). Starts model m Model·graph (o .second)) em (k .1);
   imports = subst (λ (m : Field). Starts model m Model·opset-import (o .third)) em (k .2);
   functions = subst (λ (m : Field). Starts model m Model·functions (o .fourth)) em (k .3);
+  rest = subst (λ (m : Field). Starts model m 0 (o .fifth) × Starts model m 0 (o .sixth)) em (k .4, k .5);
 }
 
 -- ---- the answer of the header, as a ruling

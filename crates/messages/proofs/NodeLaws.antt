@@ -21,12 +21,12 @@ use Rattle.rules.specs.Names.{Name}
 use Rattle.rules.specs.Walk.{naming}
 use Rattle.rules.specs.Node.{nodeName}
 use Rattle.messages.specs.Imports.{importsIn}
-use Rattle.messages.specs.Answers.{namingSays}
+use Rattle.messages.specs.Answers.{namingSays, nameField}
 use Rattle.messages.specs.Earlier.{earlierIn}
 use Rattle.messages.specs.Heads.{nodeHead}
 use Rattle.messages.specs.declared.names.Naming.{Naming}
 use Rattle.messages.specs.declared.names.Naming.the-variants as naming-answer
-use Rattle.messages.proofs.NameLaws.{empty-none, empty-some}
+use Rattle.messages.proofs.NameLaws.{empty-none, empty-some, nameSays, naming-says}
 use Rattle.messages.proofs.Silent.{silent-rule, silent-last}
 
 module _ (model : Bytes) (earlier : List Bytes) (m : Field) where
@@ -83,17 +83,17 @@ module _ (model : Bytes) (graph f : Field) where
   abbrev Imported : Rule
   Imported = refuse 28 at: placeOf Node·domain (message model f) when: not (member (domain (bytesOf model Node·domain (message model f))) (importsIn model)) >> Naming?
 
-  module _ (n : Naming) (e : namingSays model n ≡ naming model 27 Node·op-type (message model f)) where
-    pub head-untyped : {x : Refusal} → n ≡ naming-answer.Refused x → silent (namingSays model n) ≡ nodeHead model graph f
-    unfolding nodeHead namingSays silent _>>=_ _>>_
-    head-untyped k = ap (λ (m : Naming). silent (namingSays model m)) k ∙ ap (λ (o : Judged Name). silent o >> Imported) (says (namingSays model) e k)
+  module _ (n : Naming) (e : namingSays n ≡ nameField model 27 Node·op-type (message model f)) where
+    pub head-untyped : {x : Refusal} → n ≡ naming-answer.Refused x → silent (namingSays n) ≡ nodeHead model graph f
+    unfolding nodeHead namingSays nameSays silent _>>=_ _>>_
+    head-untyped k = ap (λ (m : Naming). silent (namingSays m)) k ∙ ap (λ (o : Judged Name). silent o >> Imported) (naming-says _ _ _ _ _ e k)
 
     module _ {g : Field} (k : n ≡ naming-answer.Named g) {x : Bytes} (t : x ≡ bytesOf model Node·domain (message model f)) {b : Bool} (i : b ≡ member (domain x) (importsIn model)) where
       typed : (refuse 28 at: placeOf Node·domain (message model f) when: not b >> Naming?) ≡ nodeHead model graph f
-      unfolding nodeHead namingSays silent _>>=_ _>>_
+      unfolding nodeHead namingSays nameSays silent _>>=_ _>>_
       typed =
           ap (λ (u : Bool). refuse 28 at: placeOf Node·domain (message model f) when: not u >> Naming?) (i ∙ ap (λ (y : Bytes). member (domain y) (importsIn model)) t)
-          ∙ ap (λ (o : Judged Name). silent o >> Imported) (says (namingSays model) e k)
+          ∙ ap (λ (o : Judged Name). silent o >> Imported) (naming-says _ _ _ _ _ e k)
 
       pub head-foreign : b ≡ false → {p : ℕ} → p ≡ placeOf Node·domain (message model f) → refused 28 p ≡ nodeHead model graph f
       head-foreign h q = ap (refused 28) q ∙ sym (when-broken 28 _ _ (ap not h)) ∙ typed

@@ -41,6 +41,8 @@ pub record Outlined (model : Bytes) (o : Outline) : Type 0 where
   pub graph : Starts model (whole model) Model·graph (o .second)
   pub imports : Starts model (whole model) Model·opset-import (o .third)
   pub functions : Starts model (whole model) Model·functions (o .fourth)
+  -- no field has the number 0
+  pub rest : Starts model (whole model) 0 (o .fifth) × Starts model (whole model) 0 (o .sixth)
 
 -- A header that passes leaves the model's imports.
 unfoldable pub holds : (model : Bytes) (seed : ℕ) (lists : List ℕ) → Heading → Type 0

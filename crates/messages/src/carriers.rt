@@ -15,10 +15,10 @@ use wire::FieldAnswer;
 use wire::Sought;
 
 // 0 for a type that is outside 1..14.
-pub fn carrier_of(kind: u64) -> u64
-    ensures { λ r. ⌜ r ≡ elim (lookup kind carriers) [ none ↦ 0 | some n ↦ n ] ⌝ }
+pub fn carrier_of(code: u64) -> u64
+    ensures { λ r. ⌜ r ≡ elim (lookup code carriers) [ none ↦ 0 | some n ↦ n ] ⌝ }
 {
-    match kind {
+    match code {
         1 => 2,
         2 => 3,
         3 => 4,
@@ -60,10 +60,10 @@ fn is_carrier(number: u64) -> bool
 }
 
 // "types 4, 5, 11 or 13 lack theirs"
-fn is_needed(kind: u64) -> bool
-    ensures { λ r. ⌜ r ≡ needed kind ⌝ }
+fn is_needed(code: u64) -> bool
+    ensures { λ r. ⌜ r ≡ needed code ⌝ }
 {
-    match kind {
+    match code {
         4 => true,
         5 => true,
         11 => true,
@@ -116,15 +116,15 @@ fn has_foreign(model: &[u8], a: Field, mine: u64) -> bool
 pub(crate) fn is_bad_value(model: &[u8], a: Field) -> bool
     ensures { λ r. ⌜ r ≡ badValue (numberOf Attribute·type (message (now (model .entry)) a)) (message (now (model .entry)) a) ⌝ }
 {
-    let kind = a.number_of(model, ATTRIBUTE_TYPE);
-    let mine = carrier_of(kind);
+    let code = a.number_of(model, ATTRIBUTE_TYPE);
+    let mine = carrier_of(code);
     if mine == 0 {
         return true;
     }
     if has_foreign(model, a, mine) {
         return true;
     }
-    if !is_needed(kind) {
+    if !is_needed(code) {
         return false;
     }
     match a.first_of(model, mine) {

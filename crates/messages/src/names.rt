@@ -1,11 +1,9 @@
 // The names of messages.
 ghost use mathlib.Core.Path.{_≡_};
 ghost use Rattle.wire.specs.Outcome.{refused};
-ghost use Rattle.wire.specs.Bytes.{Bytes};
 ghost use Rattle.wire.specs.Message.{message};
 ghost use Rattle.schema.specs.Answers.{silent};
-ghost use Rattle.rules.specs.Walk.{naming};
-ghost use Rattle.messages.specs.Answers.{rulingSays, namingSays};
+ghost use Rattle.messages.specs.Answers.{rulingSays, namingSays, nameField};
 use crate::Ruling;
 use rules::is_identifier;
 use wire::Field;
@@ -19,7 +17,7 @@ pub enum Naming {
 }
 
 fn misnamed(number: u8, place: usize) -> Naming
-    ensures { λ r. ⌜ ((model : Bytes) → namingSays model r ≡ refused number place) ⌝ }
+    ensures { λ r. ⌜ namingSays r ≡ refused number place ⌝ }
 {
     Naming::Refused(Refusal {
         number: number,
@@ -29,7 +27,7 @@ fn misnamed(number: u8, place: usize) -> Naming
 
 // A message's name, which may not be empty, refusal `empty`, and must be an identifier: 21.
 pub fn read_name(model: &[u8], m: Field, number: u64, empty: u8) -> Naming
-    ensures { λ r. ⌜ namingSays (now (model .entry)) r ≡ naming (now (model .entry)) empty number (message (now (model .entry)) m) ⌝ }
+    ensures { λ r. ⌜ namingSays r ≡ nameField (now (model .entry)) empty number (message (now (model .entry)) m) ⌝ }
 {
     let Sought::Found(name, _) = m.first_of(model, number) else {
         return misnamed(empty, m.place);
@@ -46,7 +44,7 @@ pub fn read_name(model: &[u8], m: Field, number: u64, empty: u8) -> Naming
 
 // The ruling on a name that may not stand.
 pub fn misnaming(n: Naming) -> Ruling
-    ensures { λ r. ⌜ ((model : Bytes) → rulingSays r ≡ silent (namingSays model n)) ⌝ }
+    ensures { λ r. ⌜ rulingSays r ≡ silent (namingSays n) ⌝ }
 {
     match n {
         Naming::Refused(r) => Ruling::Refused(r),

@@ -21,7 +21,7 @@ use wire::Field;
 use wire::Sought;
 
 // "A signed value is the 64-bit two's complement reading."
-const LEAST_NEGATIVE: u64 = 0x8000_0000_0000_0000;
+const SIGN_BIT: u64 = 0x8000_0000_0000_0000;
 
 pub fn is_element(code: u64) -> bool
     ensures { λ r. ⌜ r ≡ isElement code ⌝ }
@@ -35,7 +35,7 @@ pub fn is_element(code: u64) -> bool
 fn dim(model: &[u8], d: Field) -> Ruling
     ensures { λ r. ⌜ rulingSays r ≡ dim (now (model .entry)) tt d ⌝ }
 {
-    if LEAST_NEGATIVE <= d.number_of(model, DIMENSION_DIM_VALUE) {
+    if SIGN_BIT <= d.number_of(model, DIMENSION_DIM_VALUE) {
         return refused(Ruling::NEGATIVE_DIM, d.place_of(model, DIMENSION_DIM_VALUE));
     }
     let Sought::Found(param, _) = d.first_of(model, DIMENSION_DIM_PARAM) else {

@@ -16,10 +16,11 @@ use Rattle.rules.specs.Names.{Name, nameIn, inputsOf}
 use Rattle.rules.specs.Walk.{Walk, visible, naming, define}
 use Rattle.rules.specs.Types.{isElement}
 use Rattle.rules.specs.Graph.{isDefault, defaultOrNew}
+use Rattle.messages.proofs.NameLaws.{nameSays, naming-says}
 use Rattle.messages.specs.Earlier.{earlierIn}
 use Rattle.scope.specs.Scope.{nameAt, scopeIn, walkIn, stepSays, grows, Keeps, Defaultable}
 use Rattle.parts.specs.Again.{context, initializerAgain}
-use Rattle.messages.specs.Answers.{namingSays}
+use Rattle.messages.specs.Answers.{namingSays, nameField}
 use Rattle.messages.specs.declared.names.Naming.{Naming}
 use Rattle.messages.specs.declared.names.Naming.the-variants as naming-answer
 use Rattle.scope.specs.declared.scopes.Progress.{Progress}
@@ -95,16 +96,16 @@ module _ (model : Bytes) (full : ℕ → Bool) (main : Bool) (graph : Field) (w 
   initializer-by e = ap Whole e
 
   -- n is the answer of reading the name
-  module _ (n : Naming) (named : namingSays model n ≡ naming model 22 Tensor·name (message model f)) where
+  module _ (n : Naming) (named : namingSays n ≡ nameField model 22 Tensor·name (message model f)) where
     pub initializer-unnamed : {x : Refusal} → n ≡ naming-answer.Refused x → fail x ≡ initializerAgain model full main graph w f
-    unfolding namingSays Whole _>>=_
-    initializer-unnamed e = initializer-by (says (namingSays model) named e)
+    unfolding namingSays nameSays Whole _>>=_
+    initializer-unnamed e = initializer-by (naming-says _ _ _ _ _ named e)
 
     -- s is the answer for the name, with the cells `later`
     module _ {g : Field} (e : n ≡ naming-answer.Named g) (later : List ℕ) (s : Step) (added : stepSays model later s ≡ Named (nameIn model g)) where
       initializer-named : {o : Judged Walk} → o ≡ Named (nameIn model g) → typed o ≡ initializerAgain model full main graph w f
-      unfolding namingSays Whole _>>=_
-      initializer-named k = ap typed k ∙ initializer-by (says (namingSays model) named e)
+      unfolding namingSays nameSays Whole _>>=_
+      initializer-named k = ap typed k ∙ initializer-by (naming-says _ _ _ _ _ named e)
 
       pub initializer-stops : {x : Refusal} → s ≡ step.Refused x → stepSays model later s ≡ initializerAgain model full main graph w f
       unfolding stepSays typed _>>=_

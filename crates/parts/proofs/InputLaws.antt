@@ -17,7 +17,7 @@ use Rattle.rules.specs.Walk.{Context, inMain, Walk, naming, define}
 use Rattle.rules.specs.Types.{declaredType}
 use Rattle.rules.specs.Graph.{input}
 use Rattle.scope.specs.Scope.{nameAt, walkIn, stepSays}
-use Rattle.messages.specs.Answers.{rulingSays, namingSays}
+use Rattle.messages.specs.Answers.{rulingSays, namingSays, nameField}
 use Rattle.messages.specs.declared.names.Naming.{Naming}
 use Rattle.messages.specs.declared.names.Naming.the-variants as naming-answer
 use Rattle.messages.specs.declared.Ruling.{Ruling}
@@ -25,7 +25,7 @@ use Rattle.messages.specs.declared.Ruling.the-variants as ruling
 use Rattle.scope.specs.declared.scopes.Progress.{Progress}
 use Rattle.scope.specs.declared.scopes.Step.{Step}
 use Rattle.scope.specs.declared.scopes.Step.the-variants as step
-use Rattle.messages.proofs.NameLaws.{name-placed}
+use Rattle.messages.proofs.NameLaws.{name-placed, nameSays, naming-says}
 use Rattle.scope.proofs.ScopeLaws.{name-there}
 use Rattle.messages.proofs.RulingLaws.{ruled-kept, ruled-refused}
 
@@ -40,11 +40,11 @@ unfolding input inMain
 inputs-any model full main k e w l = ap (λ (b : Bool). each (input model full (plain b)) w l) (sym e)
 
 -- n is the answer of reading the name
-module _ (model : Bytes) (number : ℕ) (f : Field) (n : Naming) (named : namingSays model n ≡ naming model 22 number (message model f)) {g : Field}
+module _ (model : Bytes) (number : ℕ) (f : Field) (n : Naming) (named : namingSays n ≡ nameField model 22 number (message model f)) {g : Field}
     (e : n ≡ naming-answer.Named g) where
   stands : pass (nameIn model g) ≡ naming model 22 number (message model f)
-  unfolding namingSays
-  stands = says (namingSays model) named e
+  unfolding namingSays nameSays
+  stands = naming-says _ _ _ _ _ named e
 
   pub named-there : f .next ≤ length model → nameAt model (g .place) ≡ nameIn model g
   unfolding nameIn
@@ -68,15 +68,15 @@ module _ (model : Bytes) (full : ℕ → Bool) (k : Context) (w : Walk) (f : Fie
   unfolding input typed Whole
   input-by e = ap Whole e
 
-  module _ (n : Naming) (named : namingSays model n ≡ naming model 22 ValueInfo·name (message model f)) where
+  module _ (n : Naming) (named : namingSays n ≡ nameField model 22 ValueInfo·name (message model f)) where
     pub input-unnamed : {x : Refusal} → n ≡ naming-answer.Refused x → fail x ≡ input model full k w f
-    unfolding namingSays Whole _>>=_
-    input-unnamed e = input-by (says (namingSays model) named e)
+    unfolding namingSays nameSays Whole _>>=_
+    input-unnamed e = input-by (naming-says _ _ _ _ _ named e)
 
     module _ {g : Field} (e : n ≡ naming-answer.Named g) (there : nameAt model (g .place) ≡ nameIn model g) where
       input-named : typed (define full w (nameAt model (g .place))) ≡ input model full k w f
-      unfolding namingSays Whole _>>=_
-      input-named = ap (λ (y : Name). typed (define full w y)) there ∙ input-by (says (namingSays model) named e)
+      unfolding namingSays nameSays Whole _>>=_
+      input-named = ap (λ (y : Name). typed (define full w y)) there ∙ input-by (naming-says _ _ _ _ _ named e)
 
       -- s is the answer of defining it, with the cells `later`
       module _ (later : List ℕ) (s : Step) (defined : stepSays model later s ≡ define full w (nameAt model (g .place))) where

@@ -26,8 +26,9 @@ use Rattle.rules.specs.Graph.{input, defaultOrNew}
 use Rattle.rules.proofs.Counting.{after, past, Stays, stays-output, stays-input, stays-default}
 use Rattle.scope.specs.Scope.{scopeIn, walkIn, stepSays, standing, grows, Keeps, Defaultable}
 use Rattle.parts.specs.Again.{context, graphRules, initializerAgain, opening}
+use Rattle.messages.proofs.NameLaws.{nameSays, naming-says}
 use Rattle.messages.specs.Earlier.{earlierIn}
-use Rattle.messages.specs.Answers.{rulingSays, namingSays}
+use Rattle.messages.specs.Answers.{rulingSays, namingSays, nameField}
 use Rattle.messages.specs.declared.names.Naming.{Naming}
 use Rattle.messages.specs.declared.names.Naming.the-variants as naming-answer
 use Rattle.messages.specs.declared.Ruling.{Ruling}
@@ -48,16 +49,16 @@ module _ (model : Bytes) (f : Field) where
   unfolding graphRules Sparse
   rules-by e = ap (λ (o : Judged Name). silent o >> Sparse) e
 
-  module _ {n : Naming} (named : namingSays model n ≡ naming model 20 Graph·name (message model f)) where
-    pub graph-misnamed : {x : Refusal} → n ≡ naming-answer.Refused x → silent (namingSays model n) ≡ graphRules model f
-    unfolding namingSays silent _>>=_ _>>_
-    graph-misnamed e = ap (λ (m : Naming). silent (namingSays model m)) e ∙ rules-by (says (namingSays model) named e)
+  module _ {n : Naming} (named : namingSays n ≡ nameField model 20 Graph·name (message model f)) where
+    pub graph-misnamed : {x : Refusal} → n ≡ naming-answer.Refused x → silent (namingSays n) ≡ graphRules model f
+    unfolding namingSays nameSays silent _>>=_ _>>_
+    graph-misnamed e = ap (λ (m : Naming). silent (namingSays m)) e ∙ rules-by (naming-says _ _ _ _ _ named e)
 
     -- h is whether there is a sparse initializer
     module _ {g : Field} (e : n ≡ naming-answer.Named g) {h : Bool} (eh : h ≡ present (firstOf Graph·sparse-initializer (message model f))) where
       graph-named : refuse 16 at: placeOf Graph·sparse-initializer (message model f) when: h ≡ graphRules model f
-      unfolding namingSays silent _>>=_ _>>_ Sparse
-      graph-named = ap (λ (b : Bool). refuse 16 at: placeOf Graph·sparse-initializer (message model f) when: b) eh ∙ rules-by (says (namingSays model) named e)
+      unfolding namingSays nameSays silent _>>=_ _>>_ Sparse
+      graph-named = ap (λ (b : Bool). refuse 16 at: placeOf Graph·sparse-initializer (message model f) when: b) eh ∙ rules-by (naming-says _ _ _ _ _ named e)
 
       pub graph-sparse : h ≡ true → {p : ℕ} → p ≡ placeOf Graph·sparse-initializer (message model f) → refused 16 p ≡ graphRules model f
       graph-sparse k ep = ap (refused 16) ep ∙ sym (broken 16 _ k) ∙ graph-named

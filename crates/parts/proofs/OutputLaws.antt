@@ -20,11 +20,11 @@ use Rattle.rules.specs.Types.{declaredType}
 use Rattle.rules.specs.Node.{nodeOutput}
 use Rattle.rules.specs.Graph.{output}
 use Rattle.scope.specs.Scope.{nameAt}
-use Rattle.messages.specs.Answers.{namingSays}
+use Rattle.messages.specs.Answers.{namingSays, nameField}
 use Rattle.messages.specs.declared.names.Naming.{Naming}
 use Rattle.messages.specs.declared.names.Naming.the-variants as naming-answer
 use Rattle.parts.proofs.InputLaws.{plain}
-use Rattle.messages.proofs.NameLaws.{empty-none, empty-some}
+use Rattle.messages.proofs.NameLaws.{empty-none, empty-some, nameSays, naming-says}
 
 -- an output of a node
 module _ (model : Bytes) (full : ℕ → Bool) (w : Walk) (f : Field) {x : Bytes} (t : x ≡ text model f) where
@@ -68,17 +68,17 @@ module _ (model : Bytes) (k : Context) (scope : List Name) (f : Field) where
   unfolding output Seen
   listed-by e = ap (λ (o : Judged Name). o >>= Seen) e
 
-  module _ (n : Naming) (named : namingSays model n ≡ naming model 22 ValueInfo·name (message model f)) where
+  module _ (n : Naming) (named : namingSays n ≡ nameField model 22 ValueInfo·name (message model f)) where
     pub listed-unnamed : {x : Refusal} → n ≡ naming-answer.Refused x → fail x ≡ output model k scope tt f
-    unfolding namingSays _>>=_
-    listed-unnamed e = listed-by (says (namingSays model) named e)
+    unfolding namingSays nameSays _>>=_
+    listed-unnamed e = listed-by (naming-says _ _ _ _ _ named e)
 
     module _ {g : Field} (e : n ≡ naming-answer.Named g) {x : Bytes} (t : x ≡ text model g) {v : Bool} (j : v ≡ visible x scope) where
       listed : (refuse 35 at: g .place when: not v >> Declared) ≡ output model k scope tt f
-      unfolding namingSays nameIn Seen _>>=_
+      unfolding namingSays nameSays nameIn Seen _>>=_
       listed =
           ap (λ (b : Bool). refuse 35 at: g .place when: not b >> Declared) (j ∙ ap (λ (y : Bytes). visible y scope) t)
-          ∙ listed-by (says (namingSays model) named e)
+          ∙ listed-by (naming-says _ _ _ _ _ named e)
 
       pub listed-hidden : v ≡ false → refused 35 (g .place) ≡ output model k scope tt f
       listed-hidden h = sym (when-broken 35 (g .place) _ (ap not h)) ∙ listed

@@ -12,7 +12,7 @@ use Rattle.wire.specs.declared.Field.{Field}
 use Rattle.wire.specs.Lists.{present, first, keep}
 use Rattle.wire.specs.Bytes.{Bytes, byte, part, same}
 use Rattle.wire.specs.Message.{Message, allOf, firstOf, placeOf, text, bytesOf, message}
-use Rattle.wire.proofs.Lists.{true-T, or-cases, or-left, or-right, keep-exactly}
+use Rattle.wire.proofs.Lists.{some-same, true-T, or-cases, or-left, or-right, keep-exactly}
 use Rattle.wire.proofs.Bytes.{same→eq, same-exactly, member-exactly}
 use Rattle.wire.proofs.Fields.{message-ordered, keep-ordered, all-of-ordered}
 use Rattle.schema.specs.Numbers.{Graph·input, ValueInfo·name, Attribute·g, Attribute·graphs}
@@ -20,9 +20,6 @@ use Rattle.rules.specs.Names.{Name, bodiesOf, nameOf, nameIn, inputsOf}
 use Rattle.rules.specs.Runner.{find}
 use Rattle.rules.specs.Demands.{Absent, SharedTrue}
 use Rattle.rules.proofs.Defaults.{same-true}
-
-some-same : {A : Type 0} (a b : A) → _≡_ {A = Option A} (some a) (some b) → a ≡ b
-some-same a b e = cc
 
 some-no-none : {A : Type 0} (a : A) → _≡_ {A = Option A} (some a) none → ⊥
 unfolding present

@@ -33,12 +33,15 @@ typed type = model (named ++ input "x" type)
 tensorType : Bytes → Bytes
 tensorType fields = held ValueInfo·type (held TypeProto·tensor fields)
 
+shaped : Bytes → Bytes
+shaped dims = tensorType (counted TensorType·elem-type 1 ++ held TensorType·shape dims)
+
 -- The dim_value -1.
 minusOne : Bytes
 minusOne = hex "08 FF FF FF FF FF FF FF FF FF 01"
 
 dim : Bytes → Bytes
-dim fields = tensorType (counted TensorType·elem-type 1 ++ held TensorType·shape (held Shape·dim fields))
+dim fields = shaped (held Shape·dim fields)
 
 noded : Bytes → Bytes
 noded fields = model (named ++ held Graph·node fields)
@@ -140,7 +143,7 @@ judged =
     ∷ (model (held Graph·output [] ++ held Graph·node [] ++ named), 0, refused 27 10)
     ∷ (model (graph "x x" "" [] "x"), 1, refused 23 26)
     ∷ (typed [], 0, refused 40 13)
-    ∷ (typed (dim (held Dimension·dim-param [] ++ minusOne)), 1, refused 38 28)
+    ∷ (typed (shaped (held Shape·dim (held Dimension·dim-param []) ++ held Shape·dim minusOne)), 1, refused 21 26)
     ∷ (model (named ++ input "x" (tensorType (counted TensorType·elem-type 1)) ++ input "y" (dim minusOne)), 2, refused 37 18)
     ∷ (model (named ++ input "x" (dim minusOne) ++ input "y" (tensorType (counted TensorType·elem-type 1))), 2, refused 38 26)
     ∷ (model (named ++ held Graph·initializer (held Tensor·name (ascii "w"))), 0, refused 40 13)
@@ -160,5 +163,5 @@ judged =
     ∷ []
 
 judged-hold : map (λ s. verdict (s .0) L (s .1)) judged ≡ map (λ s. s .2) judged
-unfolding judged named import input typed tensorType minusOne dim noded op out attribute attributed accepted L Models·computes Verdict·computes
+unfolding judged named import input typed tensorType shaped minusOne dim noded op out attribute attributed accepted L Models·computes Verdict·computes
 judged-hold = refl

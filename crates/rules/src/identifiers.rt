@@ -31,7 +31,7 @@ fn is_digit(b: u8) -> bool
     b <= b'9'
 }
 
-fn is_word(b: u8) -> bool
+fn is_identifier_byte(b: u8) -> bool
     ensures { λ r. ⌜ r ≡ (isLetter b || isDigit b) ⌝ }
 {
     if is_letter(b) {
@@ -51,7 +51,7 @@ pub fn is_identifier(name: &[u8]) -> bool
     }
     let mut i = 1;
     while i < name.len() {
-        if !is_word(name[i]) {
+        if !is_identifier_byte(name[i]) {
             return false;
         }
         i += 1;

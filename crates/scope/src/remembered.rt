@@ -13,7 +13,7 @@ ghost use Rattle.scope.specs.Recall.{Recalls, Recalling, Recalled, Remem
 use crate::scopes::Progress;
 use crate::scopes::Step;
 use crate::scopes::cell_at;
-use crate::scopes::larger;
+use crate::scopes::max;
 use crate::scopes::name_at;
 use crate::scopes::stopped;
 use index::Listing;
@@ -118,6 +118,6 @@ pub fn define(
     Step::Went(Progress {
         used: more,
         nodes: p.nodes,
-        most: larger(p.most, more),
+        most: max(p.most, more),
     })
 }

@@ -70,7 +70,7 @@ pub fn clear_both(cells: &mut [u32], extra: &mut [u32])
     clear(extra);
 }
 
-pub(crate) fn larger(a: usize, b: usize) -> usize
+pub(crate) fn max(a: usize, b: usize) -> usize
     ensures { λ r. ⌜ r ≡ max a b ⌝ }
 {
     if a < b {

@@ -33,6 +33,9 @@ or-right false b t = t
 
 -- ---- a property of each element
 
+pub some-same : {A : Type 0} (a b : A) → _≡_ {A = Option A} (some a) (some b) → a ≡ b
+some-same a b e = cc
+
 abbrev pub All : {A : Type 0} → (A → Type 0) → List A → Type 0
 All Q [] = Unit {0}
 All Q (a ∷ more) = Q a × All Q more

@@ -13,7 +13,7 @@ use Rattle.wire.specs.Bytes.{Bytes}
 use Rattle.wire.specs.Wire.{field, fields}
 use Rattle.wire.specs.Message.{allOf, firstOf, message}
 use Rattle.wire.specs.Answers.{soughtSays, contentsOf, fieldSays, withCursor, foundIn, soughtIn}
-use Rattle.wire.specs.Outline.{Starts, marked}
+use Rattle.wire.specs.Outline.{startOf, Starts, Outlines, marked}
 use Rattle.wire.specs.declared.Refusal.{Refusal}
 use Rattle.wire.specs.declared.Field.{Field}
 use Rattle.wire.specs.declared.Cursor.{Cursor}
@@ -22,7 +22,7 @@ use Rattle.wire.specs.declared.FieldAnswer.the-variants as field-answer
 use Rattle.wire.specs.declared.Sought.{Sought}
 use Rattle.wire.specs.declared.outlines.Outline.{Outline}
 use Rattle.wire.proofs.Fields.{fields-done, fields-step, fields-stop}
-use Rattle.wire.proofs.Reading.{Fits, AtTag, field-tells}
+use Rattle.wire.proofs.Reading.{Fits, AtTag, field-tells, field-placed}
 use Rattle.wire.proofs.Passing.{passed-tells}
 use Rattle.wire.proofs.CursorLaws.{answer-read, answer-refused}
 
@@ -30,45 +30,68 @@ use Rattle.wire.proofs.CursorLaws.{answer-read, answer-refused}
 abbrev From : (s : Bytes) (end number pos : ℕ) → List Field
 From s end number pos = keep (λ f. eqb number (f .number)) (fields s end pos)
 
+-- where the first of some fields stands, or the end
+abbrev Front : (end : ℕ) → List Field → ℕ
+Front end l = elim (first l) [ none ↦ end | some f ↦ f .place ]
+
 -- ---- one number: `met` is where its first field was met, or the end
 
 pub record Marking (s : Bytes) (end start number pos met : ℕ) : Type 0 where
   pub inside : met ≤ end
   pub found : met < end → From s end number met ≡ From s end number start
+  pub front : met < end → met ≡ Front end (From s end number start)
   pub ahead : end ≤ met → From s end number pos ≡ From s end number start
 
 module _ (s : Bytes) (end start number : ℕ) where
   pub marking-start : Marking s end start number start end
-  marking-start = record { inside = omega arith; found = λ h. absurd (omega arith); ahead = λ h. refl }
+  marking-start = record { inside = omega arith; found = λ h. absurd (omega arith); front = λ h. absurd (omega arith); ahead = λ h. refl }
 
   none-from : From s end number end ≡ []
   unfolding keep
   none-from = ap (keep (λ f. eqb number (f .number))) (fields-done s end end (omega arith))
 
   -- nothing is left at `pos`
-  pub marking-done : {pos met : ℕ} → fields s end pos ≡ [] → Marking s end start number pos met → From s end number met ≡ From s end number start
-  unfolding keep
+  pub marking-done : {pos met : ℕ} → fields s end pos ≡ [] → Marking s end start number pos met →
+      (met ≡ Front end (From s end number start)) × (From s end number met ≡ From s end number start)
+  unfolding keep first
   marking-done {pos} {met} e k = go (ltb met end) (ltb-true met end) (ltb-false met end)
     where
-      go : (b : Bool) → (b ≡ true → met < end) → (b ≡ false → end ≤ met) → From s end number met ≡ From s end number start
-      go true h l = k .found (h refl)
+      go : (b : Bool) → (b ≡ true → met < end) → (b ≡ false → end ≤ met) → (met ≡ Front end (From s end number start)) × (From s end number met ≡ From s end number start)
+      go true h l = (k .front (h refl), k .found (h refl))
       go false h l =
           let far = l refl in
           let near = k .inside in
           let at-end : met ≡ end = omega arith in
-          ap (From s end number) at-end ∙ none-from ∙ sym (ap (keep (λ f. eqb number (f .number))) e) ∙ k .ahead far
+          let no-more : From s end number start ≡ [] = sym (k .ahead far) ∙ ap (keep (λ f. eqb number (f .number))) e in
+          (at-end ∙ ap (Front end) (sym no-more), ap (From s end number) at-end ∙ none-from ∙ sym no-more)
 
   pub marking-next : {pos met : ℕ} → Marking s end start number pos met → pos < end → {f : Field} → field s end pos ≡ pass f → {n : ℕ} → n ≡ marked met end pos (f .number) number → Marking s end start number (f .next) n
-  unfolding marked keep
+  unfolding marked keep first
   marking-next {pos} {met} k h {f} e {n} en = rw en (go (ltb met end) (ltb-true met end) (ltb-false met end) (eqb number (f .number)) refl)
     where
       step : From s end number pos ≡ elim (eqb number (f .number)) [ true ↦ f ∷ From s end number (f .next) | false ↦ From s end number (f .next) ]
       step = ap (keep (λ g. eqb number (g .number))) (fields-step s end pos f h e)
 
+      stepped : {t : Bool} → eqb number (f .number) ≡ t → From s end number pos ≡ elim t [ true ↦ f ∷ From s end number (f .next) | false ↦ From s end number (f .next) ]
+      stepped et = step ∙ ap (λ (b : Bool). elim b [ true ↦ f ∷ From s end number (f .next) | false ↦ From s end number (f .next) ]) et
+
+      placed : f .place ≡ pos
+      placed = passed-tells (λ (g : Field). g .place ≡ pos) (AtTag pos) (field s end pos) f (field-placed s end pos) e
+
       go : (b : Bool) → (b ≡ true → met < end) → (b ≡ false → end ≤ met) → (t : Bool) → eqb number (f .number) ≡ t → Marking s end start number (f .next) (elim b [ true ↦ met | false ↦ elim t [ true ↦ pos | false ↦ met ] ])
-      go true i l t et = let low = i refl in record { inside = k .inside; found = k .found; ahead = λ far. absurd (omega arith) }
-      go false i l true et = record { inside = omega arith; found = λ low. k .ahead (l refl); ahead = λ far. absurd (omega arith) }
-      go false i l false et = record { inside = k .inside; found = λ low. absurd (let far = l refl in omega arith); ahead = λ far. sym (step ∙ ap (λ (b : Bool). elim b [ true ↦ f ∷ From s end number (f .next) | false ↦ From s end number (f .next) ]) et) ∙ k .ahead far }
+      go true i l t et = let low = i refl in record { inside = k .inside; found = k .found; front = k .front; ahead = λ far. absurd (omega arith) }
+      go false i l true et = record {
+        inside = omega arith;
+        found = λ low. k .ahead (l refl);
+        front = λ low. sym placed ∙ ap (Front end) (sym (stepped et) ∙ k .ahead (l refl));
+        ahead = λ far. absurd (omega arith);
+      }
+      go false i l false et = record {
+        inside = k .inside;
+        found = λ low. absurd (let far = l refl in omega arith);
+        front = λ low. absurd (let far = l refl in omega arith);
+        ahead = λ far. sym (stepped et) ∙ k .ahead far;
+      }
 
 pub marked-set : (met end pos number wanted : ℕ) → met < end → met ≡ marked met end pos number wanted
 unfolding marked
@@ -109,13 +132,17 @@ marks-start s a b c d e f {end} begin h = record {
   sixth = marking-start s end (begin .at) f;
 }
 
-begins : {s : Bytes} (m : Field) {begin : Cursor} → begin ≡ contentsOf m → {number met : ℕ} → From s (m .next) number met ≡ From s (m .next) number (begin .at) → Starts s m number met
-unfolding allOf message contentsOf
-begins {s} m e {number} {met} k = record { same = k ∙ ap (λ (c : Cursor). From s (m .next) number (c .at)) e }
+begins : {s : Bytes} (m : Field) {begin : Cursor} → begin ≡ contentsOf m → {number met : ℕ} →
+    (met ≡ Front (m .next) (From s (m .next) number (begin .at))) × (From s (m .next) number met ≡ From s (m .next) number (begin .at)) → Starts s m number met
+unfolding startOf firstOf allOf message contentsOf
+begins {s} m e {number} {met} k = record {
+  place = k .0 ∙ ap (λ (c : Cursor). Front (m .next) (From s (m .next) number (c .at))) e;
+  same = k .1 ∙ ap (λ (c : Cursor). From s (m .next) number (c .at)) e;
+}
 
 -- what the whole says when nothing is left
 module _ {s : Bytes} {a b c d e f : ℕ} (m : Field) {begin here : Cursor} {o : Outline} (q : Marks s a b c d e f (m .next) begin here o) (is : begin ≡ contentsOf m) where
-  done : fields s (m .next) (here .at) ≡ [] → Starts s m a (o .first) × Starts s m b (o .second) × Starts s m c (o .third) × Starts s m d (o .fourth) × Starts s m e (o .fifth) × Starts s m f (o .sixth)
+  done : fields s (m .next) (here .at) ≡ [] → Outlines s m a b c d e f o
   done h = (
     begins m is (marking-done s (m .next) (begin .at) a h (q .first)),
     begins m is (marking-done s (m .next) (begin .at) b h (q .second)),
@@ -125,10 +152,10 @@ module _ {s : Bytes} {a b c d e f : ℕ} (m : Field) {begin here : Cursor} {o : 
     begins m is (marking-done s (m .next) (begin .at) f h (q .sixth)),
   )
 
-  pub marks-end : m .next ≤ here .at → Starts s m a (o .first) × Starts s m b (o .second) × Starts s m c (o .third) × Starts s m d (o .fourth) × Starts s m e (o .fifth) × Starts s m f (o .sixth)
+  pub marks-end : m .next ≤ here .at → Outlines s m a b c d e f o
   marks-end h = done (fields-done s (m .next) (here .at) h)
 
-  pub marks-stop : here .at < m .next → {r : FieldAnswer} → fieldSays r ≡ withCursor (here .end) (field s (here .end) (here .at)) → {x : Refusal} → r ≡ field-answer.Refused x → Starts s m a (o .first) × Starts s m b (o .second) × Starts s m c (o .third) × Starts s m d (o .fourth) × Starts s m e (o .fifth) × Starts s m f (o .sixth)
+  pub marks-stop : here .at < m .next → {r : FieldAnswer} → fieldSays r ≡ withCursor (here .end) (field s (here .end) (here .at)) → {x : Refusal} → r ≡ field-answer.Refused x → Outlines s m a b c d e f o
   marks-stop h {r} read {x} k = done (fields-stop s (m .next) (here .at) x h (ap (λ (n : ℕ). field s n (here .at)) (sym (q .ends)) ∙ answer-refused s here read k))
 
 -- a field more

@@ -17,6 +17,9 @@ fail-no-pass e a p = subst Passes (sym p) tt
 pub pass-same : {E A : Type 0} (a b : A) → _≡_ {A = Outcome E A} (pass a) (pass b) → a ≡ b
 pass-same a b e = cc
 
+pub fail-same : {E A : Type 0} (e f : E) → _≡_ {A = Outcome E A} (fail e) (fail f) → e ≡ f
+fail-same e f k = cc
+
 pub passed-bind : {E A B : Type 0} (o : Outcome E A) (f : A → Outcome E B) (b : B) → (o >>= f) ≡ pass b → (a : A) × (o ≡ pass a) × (f a ≡ pass b)
 unfolding _>>=_
 passed-bind (pass a) f b p = (a, refl, p)

@@ -1,7 +1,7 @@
 // One reading of a message that several rules look into: where the first field of each of six numbers stands.
 ghost use mathlib.Core.Path.{_≡_};
 ghost use Rattle.wire.specs.Answers.{soughtSays, soughtIn};
-ghost use Rattle.wire.specs.Outline.{Starts, marked};
+ghost use Rattle.wire.specs.Outline.{Outlines, marked};
 use crate::Cursor;
 use crate::Field;
 use crate::FieldAnswer;
@@ -31,7 +31,7 @@ fn mark(met: usize, end: usize, at: usize, number: u64, wanted: u64) -> usize
 
 impl Field {
     pub fn outline(self, s: &[u8], a: u64, b: u64, c: u64, d: u64, e: u64, f: u64) -> Outline
-        ensures { λ r. ⌜ Starts (now (s .entry)) self a (r .first) × Starts (now (s .entry)) self b (r .second) × Starts (now (s .entry)) self c (r .third) × Starts (now (s .entry)) self d (r .fourth) × Starts (now (s .entry)) self e (r .fifth) × Starts (now (s .entry)) self f (r .sixth) ⌝ }
+        ensures { λ r. ⌜ Outlines (now (s .entry)) self a b c d e f r ⌝ }
     {
         let end = self.next;
         let mut here = self.contents();

@@ -9,7 +9,7 @@ ghost use Rattle.wire.specs.Words.{Four, Eight, Comparing};
 use crate::Field;
 use crate::varints::wide;
 
-fn lesser(a: usize, b: usize) -> usize
+fn min(a: usize, b: usize) -> usize
     ensures { λ r. ⌜ r ≡ min a b ⌝ }
 {
     if a < b {
@@ -22,8 +22,8 @@ fn lesser(a: usize, b: usize) -> usize
 pub fn between(s: &[u8], start: usize, end: usize) -> &[u8]
     ensures { λ r. ⌜ now r ≡ part start (end - start) (now (s .entry)) ⌝ }
 {
-    let last = lesser(end, s.len());
-    let first = lesser(start, last);
+    let last = min(end, s.len());
+    let first = min(start, last);
     &s[first..last]
 }
 

@@ -9,7 +9,7 @@ returns c =
     let c4 = c2 .before .before in
     let c5 = c4 .before in
     let entry = c5 .before .before .before in
-    remembered-text (entry .args .name) (c5 .lesser .ensures) (c4 .lesser2 .ensures) (c2 .remember .ensures)
+    remembered-text (entry .args .name) (c5 .min .ensures) (c4 .min2 .ensures) (c2 .remember .ensures)
 
 pub remember-name-spec : {M : Type 1} → statement M
 remember-name-spec =

@@ -13,7 +13,7 @@ unfolding attributeRules earlierIn
 returns c =
     let c1 = c .before in
     let c3 = c1 .before .before in
-    c .misnaming .ensures _ ∙ attribute-nameless _ _ _ (c3 .read-name .ensures) (c1 .enum-told .given .1)
+    c .misnaming .ensures ∙ attribute-nameless _ _ _ (c3 .read-name .ensures) (c1 .enum-told .given .1)
 
 returns-2 : tie.Need-returns-2
 unfolding attributeRules earlierIn

@@ -25,4 +25,4 @@ carrier-of-spec =
     (λ c. carrier-at 12 (c .match .keys12))
     (λ c. carrier-at 13 (c .match .keys13))
     (λ c. carrier-at 14 (c .match .keys14))
-    (λ c. carrier-none (c .before .args .kind) (14 ∷ 13 ∷ 12 ∷ 11 ∷ 10 ∷ 9 ∷ 8 ∷ 7 ∷ 6 ∷ 5 ∷ 4 ∷ 3 ∷ 2 ∷ 1 ∷ []) tt (c .match .rest)))
+    (λ c. carrier-none (c .before .args .code) (14 ∷ 13 ∷ 12 ∷ 11 ∷ 10 ∷ 9 ∷ 8 ∷ 7 ∷ 6 ∷ 5 ∷ 4 ∷ 3 ∷ 2 ∷ 1 ∷ []) tt (c .match .rest)))

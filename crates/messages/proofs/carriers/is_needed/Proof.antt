@@ -15,4 +15,4 @@ is-needed-spec =
     (λ c. contains-at (4 ∷ 5 ∷ 11 ∷ 13 ∷ []) 5 (c .match .keys2))
     (λ c. contains-at (4 ∷ 5 ∷ 11 ∷ 13 ∷ []) 11 (c .match .keys3))
     (λ c. contains-at (4 ∷ 5 ∷ 11 ∷ 13 ∷ []) 13 (c .match .keys4))
-    (λ c. contained-none (c .before .args .kind) (4 ∷ 5 ∷ 11 ∷ 13 ∷ []) (13 ∷ 11 ∷ 5 ∷ 4 ∷ []) tt (c .match .rest)))
+    (λ c. contained-none (c .before .args .code) (4 ∷ 5 ∷ 11 ∷ 13 ∷ []) (13 ∷ 11 ∷ 5 ∷ 4 ∷ []) tt (c .match .rest)))

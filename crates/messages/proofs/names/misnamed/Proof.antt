@@ -5,7 +5,7 @@ use Rattle.messages.proofs.names.misnamed.Tie as tie
 
 returns : tie.Need-returns
 unfolding namingSays
-returns c = λ model. refl
+returns c = refl
 
 pub misnamed-spec : {M : Type 1} → statement M
 misnamed-spec =

@@ -6,11 +6,11 @@ use Rattle.messages.proofs.names.misnaming.Tie as tie
 
 returns : tie.Need-returns
 unfolding rulingSays
-returns c = λ model. misnaming-refused model (c .before .n .given .1)
+returns c = misnaming-refused (c .before .n .given .1)
 
 returns-2 : tie.Need-returns-2
 unfolding rulingSays
-returns-2 c = λ model. misnaming-named model (c .enum-told .given .1)
+returns-2 c = misnaming-named (c .enum-told .given .1)
 
 pub misnaming-spec : {M : Type 1} → statement M
 misnaming-spec =

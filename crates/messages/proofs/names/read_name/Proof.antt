@@ -8,13 +8,13 @@ use Rattle.messages.proofs.names.read_name.Statement.{statement}
 use Rattle.messages.proofs.names.read_name.Tie as tie
 
 returns : tie.Need-returns
-returns c = c .misnamed .ensures _ ∙ name-absent _ _ _ _ (missing _ _ _ _ (c .before .before .before .first-of .ensures) (c .before .enum-told .given .1))
+returns c = c .misnamed .ensures ∙ name-absent _ _ _ _ (missing _ _ _ _ (c .before .before .before .first-of .ensures) (c .before .enum-told .given .1))
 
 returns-2 : tie.Need-returns-2
-returns-2 c = c .misnamed2 .ensures _ ∙ name-empty _ _ _ _ (found _ _ _ _ (c .before .before .before .before .before .before .first-of .ensures) (c .before .before .before .before .name .given .1)) (c .before .before .text .ensures) (c .before .if1 .taken)
+returns-2 c = c .misnamed2 .ensures ∙ name-empty _ _ _ _ (found _ _ _ _ (c .before .before .before .before .before .before .first-of .ensures) (c .before .before .before .before .name .given .1)) (c .before .before .text .ensures) (c .before .if1 .taken)
 
 returns-3 : tie.Need-returns-3
-returns-3 c = c .misnamed3 .ensures _ ∙ name-bad _ _ _ _ (found _ _ _ _ (c .before .before .before .before .before .before .before .before .first-of .ensures) (c .before .before .before .before .before .before .name .given .1)) (c .before .before .before .before .text .ensures) (c .before .before .before .if1 .left) (c .before .before .is-identifier .ensures) (not-true _ (c .before .if2 .taken))
+returns-3 c = c .misnamed3 .ensures ∙ name-bad _ _ _ _ (found _ _ _ _ (c .before .before .before .before .before .before .before .before .first-of .ensures) (c .before .before .before .before .before .before .name .given .1)) (c .before .before .before .before .text .ensures) (c .before .before .before .if1 .left) (c .before .before .is-identifier .ensures) (not-true _ (c .before .if2 .taken))
 
 returns-4 : tie.Need-returns-4
 unfolding namingSays

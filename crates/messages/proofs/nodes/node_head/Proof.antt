@@ -11,7 +11,7 @@ returns : tie.Need-returns
 returns c =
     let c1 = c .before in
     let c3 = c1 .before .before in
-    c .misnaming .ensures _ ∙ head-untyped _ _ _ _ (c3 .read-name .ensures) (c1 .enum-told2 .given .1)
+    c .misnaming .ensures ∙ head-untyped _ _ _ _ (c3 .read-name .ensures) (c1 .enum-told2 .given .1)
 
 returns-2 : tie.Need-returns-2
 returns-2 c =

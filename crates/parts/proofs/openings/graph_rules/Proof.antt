@@ -9,7 +9,7 @@ returns : tie.Need-returns
 returns c =
     let c1 = c .before in
     let c3 = c1 .before .before in
-    c .misnaming .ensures _ ∙ graph-misnamed _ _ (c3 .read-name .ensures) (c1 .enum-told2 .given .1)
+    c .misnaming .ensures ∙ graph-misnamed _ _ (c3 .read-name .ensures) (c1 .enum-told2 .given .1)
 
 returns-2 : tie.Need-returns-2
 returns-2 c =

@@ -44,7 +44,7 @@ returns-3 c =
     let c7 = c6 .before in
     let c8 = c7 .before in
     let entry = c8 .before .before .before .before .before .before in (
-      define-new _ _ _ _ _ (text-there _ _ (entry .pre .1 .0) (c8 .text .ensures)) _ (c7 .sees .ensures) (c6 .if1 .left) _ (c .larger .ensures)
+      define-new _ _ _ _ _ (text-there _ _ (entry .pre .1 .0) (c8 .text .ensures)) _ (c7 .sees .ensures) (c6 .if1 .left) _ (c .max .ensures)
           (c5 .if2 .left),
       (
         omega arith,

@@ -4,7 +4,7 @@ use Rattle.wire.proofs.slices.between.Statement.{statement}
 use Rattle.wire.proofs.slices.between.Tie as tie
 
 returns : tie.Need-returns
-returns c = part-cut _ _ _ _ _ (c .before .before .lesser .ensures) (c .before .lesser2 .ensures)
+returns c = part-cut _ _ _ _ _ (c .before .before .min .ensures) (c .before .min2 .ensures)
 
 pub between-spec : {M : Type 1} → statement M
 between-spec =

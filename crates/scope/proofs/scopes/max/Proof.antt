@@ -1,6 +1,6 @@
 use native.Mathlib.Omega.{arith}
-use Rattle.scope.proofs.scopes.larger.Statement.{statement}
-use Rattle.scope.proofs.scopes.larger.Tie as tie
+use Rattle.scope.proofs.scopes.max.Statement.{statement}
+use Rattle.scope.proofs.scopes.max.Tie as tie
 
 returns : tie.Need-returns
 returns c = omega (arith, c .if1 .taken)
@@ -8,8 +8,8 @@ returns c = omega (arith, c .if1 .taken)
 returns-2 : tie.Need-returns-2
 returns-2 c = omega (arith, c .if1 .left)
 
-pub larger-spec : {M : Type 1} → statement M
-larger-spec =
+pub max-spec : {M : Type 1} → statement M
+max-spec =
     tie.close
     (tie.spec
     returns
