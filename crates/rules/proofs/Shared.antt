@@ -1,5 +1,6 @@
 -- What judge and runner share does what its name says.
 use Prim.Native.Nat.{ℕ, _+_, _-_, _<_, min}
+use native.Mathlib.Omega.{arith}
 use mathlib.Core.Path.{_≡_, refl, sym, ap, _∙_}
 use mathlib.Core.Logic.{_↔_, _⊎_, inl, inr}
 use mathlib.Core.Bool.{Bool, true, false, _||_, true≢false}
@@ -11,10 +12,13 @@ use lib.Dec.{T, eqb, eqb→eq, eqb-refl}
 use Rattle.wire.specs.declared.Field.{Field}
 use Rattle.wire.specs.Lists.{present, first, keep}
 use Rattle.wire.specs.Bytes.{Bytes, byte, part, same}
-use Rattle.wire.specs.Message.{Message, allOf, firstOf, placeOf, text, bytesOf, message}
+use Rattle.wire.specs.Message.{Message, allOf, firstOf, placeOf, text, bytesOf, message, whole}
 use Rattle.wire.proofs.Lists.{some-same, true-T, or-cases, or-left, or-right, keep-exactly}
 use Rattle.wire.proofs.Bytes.{same→eq, same-exactly, member-exactly}
 use Rattle.wire.proofs.Fields.{message-ordered, keep-ordered, all-of-ordered}
+use Rattle.schema.specs.declared.Kind.the-variants.{Model}
+use Rattle.schema.specs.FirstWalk.{firstWalk}
+use Rattle.schema.proofs.Opened.{opened-gapless}
 use Rattle.schema.specs.Numbers.{Graph·input, ValueInfo·name, Attribute·g, Attribute·graphs}
 use Rattle.rules.specs.Names.{Name, bodiesOf, nameOf, nameIn, inputsOf}
 use Rattle.rules.specs.Runner.{find}
@@ -111,13 +115,14 @@ inputs-exactly model g x = (
 )
 
 pub sharedTrue : SharedTrue
-unfolding allOf bodiesOf firstOf
+unfolding allOf bodiesOf firstOf firstWalk whole
 sharedTrue = record {
   same-is-equal = same-exactly;
   member-is-membership = member-exactly;
   find-finds-newest = find-newest;
   find-misses-none = find-none;
   fields-apart = message-ordered;
+  fields-whole = λ model w path o. opened-gapless model Model 0 (whole model) (omega arith) w path o;
   all-of = λ n m f. kept-by (λ g. g .number ≡ n) (λ g. eqb n (g .number)) (m .fields) f (number-test n f);
   all-apart = all-of-ordered;
   bodies-of = λ a f.

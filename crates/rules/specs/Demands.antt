@@ -13,12 +13,14 @@ use Rattle.wire.specs.declared.Field.{Field}
 use Rattle.wire.specs.Lists.{contains}
 use Rattle.wire.specs.Bytes.{Bytes, byte, same, member}
 use Rattle.wire.specs.Wire.{fieldsFrom, fields}
-use Rattle.wire.specs.Message.{Message, allOf, firstOf, text, message}
-use Rattle.wire.specs.Order.{Ordered}
+use Rattle.wire.specs.Message.{Message, allOf, firstOf, text, message, whole}
+use Rattle.wire.specs.Order.{Ordered, Gapless}
 use Rattle.operators.specs.Operators.{sound, entriesFrom, entriesAt}
 use Rattle.schema.specs.declared.Kind.{Kind}
+use Rattle.schema.specs.declared.Kind.the-variants.{Model}
 use Rattle.schema.specs.Numbers.{Graph·input, ValueInfo·name, Attribute·g, Attribute·graphs}
 use Rattle.schema.specs.FirstWalk.{walk, walked, firstWalk}
+use Rattle.schema.specs.Opened.{Opened, innermost}
 use Rattle.rules.specs.Names.{Name, bodiesOf, nameOf, nameIn, inputsOf}
 use Rattle.rules.specs.Walk.{Walk}
 use Rattle.rules.specs.Header.{secondWalkTo, secondWalk}
@@ -104,6 +106,10 @@ pub record SharedTrue : Type 0 where
       (newer older : List Name) × (n : Name) × (names ≡ newer ++ (n ∷ older)) × (n .bytes ≡ x) × (n .place ≡ p) × Absent x newer
   pub find-misses-none : (x : Bytes) (names : List Name) → find x names ≡ none → Absent x names
   pub fields-apart : (model : Bytes) (f : Field) → Ordered (f .start) (f .next) (message model f .fields)
+  -- and after a passed first walk those of each opened message run without a gap from its start to its end
+  pub fields-whole :
+      (model : Bytes) → firstWalk model ≡ pass tt → (path : List Field) → Opened model Model (whole model) path →
+      let f = innermost (whole model) path in Gapless (f .start) (f .next) (message model f .fields)
   pub all-of : (n : ℕ) (m : Message) (f : Field) → List·Memᴰ f (allOf n m) ↔ (List·Memᴰ f (m .fields) × (f .number ≡ n))
   pub all-apart : (model : Bytes) (n : ℕ) (f : Field) → Ordered (f .start) (f .next) (allOf n (message model f))
   pub bodies-of :

@@ -1,22 +1,28 @@
--- What a passed first walk says of every message that it opened: it was walked too and passed, and no graph stands at depth 9.
+-- What a passed first walk says of every message that it opened: it was walked too and passed, no graph stands at
+-- depth 9, and its fields leave no gap.
 use Prim.Native.Nat.{ℕ, zero, suc, _+_, _-_, _≤_, _<_}
 use native.Mathlib.Omega.{arith}
-use mathlib.Core.Path.{_≡_, sym, _∙_}
+use mathlib.Core.Path.{_≡_, refl, sym, _∙_}
 use mathlib.Core.Bool.{Bool, true, false, not, _&&_}
 use mathlib.Core.List.{List, [], _∷_}
 use mathlib.Core.Option.{Option, none, some}
 use lib.Dec.{T, leb, eqb}
+use borrow.Author.Tests.{leb-true}
 use Rattle.wire.specs.Outcome.{pass, fail, _>>=_, Rule, refuse_at:_when:_}
 use Rattle.wire.specs.Bytes.{Bytes}
 use Rattle.wire.specs.Wire.{tag, value, field, fieldsFrom, fields}
+use Rattle.wire.specs.Message.{message}
+use Rattle.wire.specs.Order.{Gapless}
 use Rattle.wire.specs.declared.Tag.{Tag}
 use Rattle.wire.specs.declared.Field.{Field}
-use Rattle.wire.proofs.Lists.{All, If}
+use Rattle.wire.proofs.Lists.{All, If, all-member}
 use Rattle.wire.proofs.Passing.{passed-bind, passed-seq, passed-rule, passed-tells}
-use Rattle.wire.proofs.Reading.{AtTag, Follows, tag-tells, value-tells}
+use Rattle.wire.proofs.Reading.{Fits, AtTag, Follows, tag-tells, value-tells, field-tells, field-placed}
+use Rattle.wire.proofs.Fields.{fields-ordered, ordered-all}
 use Rattle.schema.specs.declared.Kind.{Kind}
 use Rattle.schema.specs.Rows.{rowOf, isGraph}
 use Rattle.schema.specs.FirstWalk.{fits, slotOf, taken, take-up, kindOf, deeper, contents, turn, walk, walked}
+use Rattle.schema.specs.Opened.{Opened, innermost}
 use Rattle.schema.proofs.Bound.{walk-bound}
 
 module _ (model : Bytes) where
@@ -78,3 +84,36 @@ module _ (model : Bytes) where
   pub walked-opens : (kind : Kind) (depth : ℕ) (end pos : ℕ) → walked model kind depth [] end pos ≡ pass tt → All (Opens kind depth) (fields model end pos)
   unfolding walked fields
   walked-opens kind depth end pos e = walk-passed (end - pos) kind depth [] end pos (omega arith) e
+
+  -- ---- no gap
+
+  walk-gapless : (n : ℕ) (kind : Kind) (depth : ℕ) (slots : List ℕ) (end pos : ℕ) → end ≤ pos + n → pos ≤ end
+      → walk model n kind depth slots end pos ≡ pass tt → Gapless pos end (fieldsFrom model n end pos)
+  unfolding walk fieldsFrom
+  walk-gapless zero kind depth slots end pos h l e = omega arith
+  walk-gapless (suc n) kind depth slots end pos h l e = go (leb end pos) (leb-true end pos) e (λ more p i j w. walk-gapless n kind depth more end p i j w)
+    where
+      go : (b : Bool) → (b ≡ true → end ≤ pos)
+          → elim b as (λ _. Rule) [ true ↦ pass tt | false ↦ turn model (λ k d e p. walk model n k d [] e p) (λ more p. walk model n kind depth more end p) kind depth slots end pos ] ≡ pass tt
+          → ((more : List ℕ) (p : ℕ) → end ≤ p + n → p ≤ end → walk model n kind depth more end p ≡ pass tt → Gapless p end (fieldsFrom model n end p))
+          → Gapless pos end (elim b [ true ↦ [] | false ↦ elim (field model end pos) [ pass f ↦ f ∷ fieldsFrom model n end (f .next) | fail r ↦ [] ] ])
+      go true g w ih = let done = g refl in omega arith
+      go false g w ih =
+          let p = turn-passed n kind depth slots end pos (omega arith) w in
+          let placed = passed-tells (λ (f : Field). f .place ≡ pos) (AtTag pos) (field model end pos) (p .0) (field-placed model end pos) (p .1) in
+          let fits = passed-tells (Fits pos end) (AtTag pos) (field model end pos) (p .0) (field-tells model end pos) (p .1) in
+          rw (p .1) (placed, ih (p .4 .0) (p .0 .next) (omega arith) (fits .3) (p .4 .1))
+
+  walked-gapless : (kind : Kind) (depth : ℕ) (end pos : ℕ) → pos ≤ end → walked model kind depth [] end pos ≡ pass tt → Gapless pos end (fields model end pos)
+  unfolding walked fields
+  walked-gapless kind depth end pos l e = walk-gapless (end - pos) kind depth [] end pos (omega arith) l e
+
+  pub opened-gapless : (kind : Kind) (depth : ℕ) (f : Field) → f .start ≤ f .next → walked model kind depth [] (f .next) (f .start) ≡ pass tt
+      → (path : List Field) → Opened model kind f path
+      → Gapless (innermost f path .start) (innermost f path .next) (message model (innermost f path) .fields)
+  unfolding innermost message
+  opened-gapless kind depth f l w [] o = walked-gapless kind depth (f .next) (f .start) l w
+  opened-gapless kind depth f l w (g ∷ inner) (m, (k, e, o)) =
+      let inside = all-member (Fits (f .start) (f .next)) (fields model (f .next) (f .start)) (ordered-all (f .start) (f .next) (fields model (f .next) (f .start)) (fields-ordered model (f .next) (f .start))) m in
+      let sound : If (Sound depth g) (some k) = rw e at (all-member (Opens kind depth) (fields model (f .next) (f .start)) (walked-opens kind depth (f .next) (f .start) w) m) in
+      opened-gapless k (deeper k depth) g (inside .2) (sound .1) inner o

@@ -1,6 +1,6 @@
 -- Laws of Lists.antt, and of tests as facts.
 use Prim.Native.Nat.{ℕ}
-use mathlib.Core.Path.{_≡_, refl, sym, ap, ap₂, _∙_}
+use mathlib.Core.Path.{_≡_, refl, sym, subst, ap, ap₂, _∙_}
 use mathlib.Core.Logic.{_↔_, _⊎_, inl, inr}
 use mathlib.Core.Bool.{Bool, true, false, not, _&&_, _||_}
 use mathlib.Core.List.{List, [], _∷_, _++_, map, flatMap, append-assoc, List·Memᴰ, List·Memᴰ·head, List·Memᴰ·tail, List·Memᴰ·not-nil, List·Memᴰ·cases-cons}
@@ -43,6 +43,14 @@ All Q (a ∷ more) = Q a × All Q more
 abbrev pub If : {A : Type 0} → (A → Type 0) → Option A → Type 0
 If Q none = Unit {0}
 If Q (some a) = Q a
+
+pub all-member : {A : Type 0} (Q : A → Type 0) (l : List A) → All Q l → {a : A} → List·Memᴰ a l → Q a
+all-member Q [] h m = absurd (List·Memᴰ·not-nil m)
+all-member Q (b ∷ l) h {a} m = pick (List·Memᴰ·cases-cons m) (λ k. all-member Q l (h .1) k)
+  where
+    pick : (a ≡ b) ⊎ List·Memᴰ a l → (List·Memᴰ a l → Q a) → Q a
+    pick (inl e) ih = subst Q (sym e) (h .0)
+    pick (inr k) ih = ih k
 
 pub all-map : {A : Type 0} (Q R : A → Type 0) → ((a : A) → Q a → R a) → (l : List A) → All Q l → All R l
 all-map Q R h [] q = tt

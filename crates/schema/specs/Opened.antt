@@ -1,0 +1,21 @@
+-- The messages that the first walk opens. No rule speaks of this; what is claimed of the definitions does.
+use mathlib.Core.Path.{_≡_}
+use mathlib.Core.List.{List, [], _∷_, List·Memᴰ}
+use mathlib.Core.Option.{some}
+use Rattle.wire.specs.Bytes.{Bytes}
+use Rattle.wire.specs.Message.{message}
+use Rattle.wire.specs.declared.Field.{Field}
+use Rattle.schema.specs.declared.Kind.{Kind}
+use Rattle.schema.specs.Rows.{rowOf}
+use Rattle.schema.specs.FirstWalk.{kindOf}
+
+-- A way from a message of this kind inwards: each field stands in the message before it, and its row opens it.
+abbrev pub Opened : (model : Bytes) → Kind → Field → List Field → Type 0
+Opened model kind f [] = Unit {0}
+Opened model kind f (g ∷ inner) =
+    List·Memᴰ g (message model f .fields) × ((k : Kind) × (kindOf (rowOf kind (g .number)) ≡ some k) × Opened model k g inner)
+
+-- The message at its end.
+unfoldable pub innermost : Field → List Field → Field
+innermost f [] = f
+innermost f (g ∷ inner) = innermost g inner
