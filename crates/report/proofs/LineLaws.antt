@@ -22,13 +22,21 @@ pub record Putting (out₀ : List ℕ) (start : ℕ) (text : List ℕ) (i : ℕ)
 pub put-start : (out : List ℕ) (start : ℕ) (text : List ℕ) → Putting out start text 0 out
 put-start out start text = record { within = omega arith; so-far = paste-zero out start text; whole = refl }
 
-pub put-turn : {out₀ : List ℕ} {start : ℕ} {text : List ℕ} {i : ℕ} {out : List ℕ} → Putting out₀ start text i out → start + length text ≤ length out₀ → i < length text → Putting out₀ start text (i + 1) (set out (start + i) (getD text i 0))
+pub put-turn : {out₀ : List ℕ} {start : ℕ} {text : List ℕ} {i : ℕ} {out : List ℕ}
+    → Putting out₀ start text i out → start + length text ≤ length out₀ → i < length text
+    → Putting out₀ start text (i + 1) (set out (start + i) (getD text i 0))
 put-turn {out₀} {start} {text} {i} {out} h fits more =
     let e : i + 1 ≡ suc i = omega arith in
     subst⁻¹ (λ n. Putting out₀ start text n (set out (start + i) (getD text i 0))) e
-    (record { within = omega arith; so-far = ap (λ l. set l (start + i) (getD text i 0)) (h .so-far) ∙ paste-suc out₀ start text i 0 (omega arith) more; whole = length-set out (start + i) (getD text i 0) ∙ h .whole })
+    (record {
+      within = omega arith;
+      so-far = ap (λ l. set l (start + i) (getD text i 0)) (h .so-far) ∙ paste-suc out₀ start text i 0 (omega arith) more;
+      whole = length-set out (start + i) (getD text i 0) ∙ h .whole;
+    })
 
-pub put-done : {out₀ : List ℕ} {start : ℕ} {text : List ℕ} {i : ℕ} {out : List ℕ} → Putting out₀ start text i out → length text ≤ i → (start + i ≡ start + length text) × (out ≡ paste out₀ start text (length text))
+pub put-done : {out₀ : List ℕ} {start : ℕ} {text : List ℕ} {i : ℕ} {out : List ℕ}
+    → Putting out₀ start text i out → length text ≤ i
+    → (start + i ≡ start + length text) × (out ≡ paste out₀ start text (length text))
 put-done {out₀} {start} {text} {i} {out} h done =
     let e : i ≡ length text = omega (arith, h .within) in
     (ap (λ n. start + n) e, h .so-far ∙ ap (paste out₀ start text) e)
@@ -47,9 +55,13 @@ unfolding over
 joined text more out =
     ap (λ l. l ++ take (length more) more ++ drop (length text + length more) (over text out)) (take-append-seam text (drop (length text) out))
     ∙ ap (λ l. text ++ l ++ drop (length text + length more) (over text out)) (take-length more)
-    ∙ ap (λ l. text ++ more ++ l) (drop-append-add text (drop (length text) out) (length more) ∙ drop-drop (length more) (length text) out ∙ ap (λ k. drop k out) (sym (length-append text more)))
+    ∙ ap (λ l. text ++ more ++ l) (drop-append-add text (drop (length text) out) (length more)
+    ∙ drop-drop (length more) (length text) out
+    ∙ ap (λ k. drop k out) (sym (length-append text more)))
 
-pub and-then : (more : Bytes) {out₀ text : Bytes} {r s : ℕ} {out next : Bytes} → Written out₀ text r out → s ≡ r + length more → next ≡ paste out r more (length more) → Written out₀ (text ++ more) s next
+pub and-then : (more : Bytes) {out₀ text : Bytes} {r s : ℕ} {out next : Bytes}
+    → Written out₀ text r out → s ≡ r + length more → next ≡ paste out r more (length more)
+    → Written out₀ (text ++ more) s next
 and-then more {out₀} {text} {r} {s} {out} {next} w d e = record {
   size = d ∙ ap (λ k. k + length more) (w .size) ∙ sym (length-append text more);
   so-far = e ∙ ap (λ l. paste l r more (length more)) (w .so-far) ∙ ap (λ k. paste (over text out₀) k more (length more)) (w .size) ∙ joined text more out₀;
@@ -59,14 +71,20 @@ and-then more {out₀} {text} {r} {s} {out} {next} w d e = record {
 abbrev pub Says : (out₀ text : Bytes) (r : ℕ) (out : Bytes) → Type 0
 Says out₀ text r out = (r ≡ length text) × (out ≡ over text out₀)
 
-pub numbers-written : (first : Bytes) (m : ℕ) (second : Bytes) (n : ℕ) {out₀ : Bytes} {r : ℕ} {out : Bytes} → Written out₀ (first ++ decimal m ++ second ++ decimal n ++ (0x0A ∷ [])) r out → Says out₀ (numbersOf first m second n) r out
+pub numbers-written : (first : Bytes) (m : ℕ) (second : Bytes) (n : ℕ) {out₀ : Bytes} {r : ℕ} {out : Bytes}
+    → Written out₀ (first ++ decimal m ++ second ++ decimal n ++ (0x0A ∷ [])) r out
+    → Says out₀ (numbersOf first m second n) r out
 unfolding numbersOf
 numbers-written first m second n w = (w .size, w .so-far)
 
-pub line-accepted : (out₀ : Bytes) {a : Answer} {nodes names r : ℕ} {out : Bytes} → a ≡ answer.Accepted nodes names → Says out₀ (numbersOf (ascii "accepted nodes ") nodes (ascii " names ") names) r out → Says out₀ (lineOf (meaning a)) r out
+pub line-accepted : (out₀ : Bytes) {a : Answer} {nodes names r : ℕ} {out : Bytes}
+    → a ≡ answer.Accepted nodes names → Says out₀ (numbersOf (ascii "accepted nodes ") nodes (ascii " names ") names) r out
+    → Says out₀ (lineOf (meaning a)) r out
 unfolding lineOf meaning
 line-accepted out₀ {r} {out} e says = subst⁻¹ (λ x. Says out₀ (lineOf (meaning x)) r out) e says
 
-pub line-refused : (out₀ : Bytes) {a : Answer} {f : Refusal} {r : ℕ} {out : Bytes} → a ≡ answer.Refused f → Says out₀ (numbersOf (ascii "refused ") (f .number) (ascii " at ") (f .place)) r out → Says out₀ (lineOf (meaning a)) r out
+pub line-refused : (out₀ : Bytes) {a : Answer} {f : Refusal} {r : ℕ} {out : Bytes}
+    → a ≡ answer.Refused f → Says out₀ (numbersOf (ascii "refused ") (f .number) (ascii " at ") (f .place)) r out
+    → Says out₀ (lineOf (meaning a)) r out
 unfolding lineOf meaning
 line-refused out₀ {r} {out} e says = subst⁻¹ (λ x. Says out₀ (lineOf (meaning x)) r out) e says
