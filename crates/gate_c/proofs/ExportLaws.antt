@@ -37,7 +37,8 @@ module _ (model : Bytes) where
   Lie x p = (p .start + p .length ≤ length model) × (part (p .start) (p .length) model ≡ x)
 
   module _ (start size : ℕ) where
-    at-by : {b : Bool} → leb (start + size) (length model) ≡ b → elim b [ true ↦ record { start = start; length = size } | false ↦ record { start = 0; length = 0 } ] ≡ shownAt model start size
+    at-by : {b : Bool} → leb (start + size) (length model) ≡ b
+        → elim b [ true ↦ record { start = start; length = size } | false ↦ record { start = 0; length = 0 } ] ≡ shownAt model start size
     unfolding shownAt
     at-by e = ap (λ (b : Bool). elim b [ true ↦ record { start = start; length = size } | false ↦ record { start = 0; length = 0 } ]) (sym e)
 
@@ -52,12 +53,16 @@ module _ (model : Bytes) where
     unfolding shownAt shown part
     at-shown = go (leb (start + size) (length model)) refl
       where
-        go : (b : Bool) → leb (start + size) (length model) ≡ b → Lie (elim b [ true ↦ part start size model | false ↦ [] ]) (elim b [ true ↦ record { start = start; length = size } | false ↦ record { start = 0; length = 0 } ])
+        go : (b : Bool) → leb (start + size) (length model) ≡ b
+            → Lie (elim b [ true ↦ part start size model | false ↦ [] ])
+            (elim b [ true ↦ record { start = start; length = size } | false ↦ record { start = 0; length = 0 } ])
         go true e = (leb-true (start + size) (length model) e, refl)
         go false e = (omega arith, refl)
 
 -- a refusal of 0 says that the model is accepted, since no number of document 01 is 0
-pub none-accepts : (model list : Bytes) (cells : ℕ) → outcome (verdict model list cells) .refusal ≡ 0 → verdict model list cells ≡ pass (record { nodes = outcome (verdict model list cells) .nodes; names = outcome (verdict model list cells) .names })
+pub none-accepts : (model list : Bytes) (cells : ℕ) → outcome (verdict model list cells) .refusal ≡ 0
+    → verdict model list cells
+    ≡ pass (record { nodes = outcome (verdict model list cells) .nodes; names = outcome (verdict model list cells) .names })
 unfolding outcome contains RefusedProperly
 none-accepts model list cells e = go (verdict model list cells) refl e
   where
