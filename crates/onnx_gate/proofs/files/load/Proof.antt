@@ -7,7 +7,9 @@ use Rattle.onnx_gate.proofs.files.load.Statement.{statement}
 use Rattle.onnx_gate.proofs.files.load.Tie as tie
 
 returns : tie.Need-returns
-returns c = held-counts 0 (pos 0) (c .before .before .before .before .before .args .buffer .now) (c .held .ensures) (counts 0 (c .before .before .before .before .before .args .buffer .now) (omega arith))
+returns c =
+    let entry = c .before .before .before .before .before in
+    held-counts 0 (pos 0) (entry .args .buffer .now) (c .held .ensures) (counts 0 (entry .args .buffer .now) (omega arith))
 
 returns-2 : tie.Need-returns-2
 returns-2 c = held-counts _ _ _ (c .held2 .ensures) (c .before .before .before .before .before .before .before .read-full .ensures)
