@@ -22,10 +22,20 @@ returns-2 : tie.Need-returns-2 Inv-loop μ-loop
 returns-2 c = count-stop (c .before .before .before .before .loop .inv) (c .before .before .before .if1 .left) (c .before .before .read-varint .ensures) (c .enum-told .given .1)
 
 loop-less : tie.Need-loop-less Inv-loop μ-loop
-loop-less c = omega (arith, count-moves (c .before .before .before .before .before .loop .inv) (c .before .before .before .before .if1 .left) (c .before .before .before .read-varint .ensures) (c .before .read .given .1))
+loop-less c =
+    let c1 = c .before in
+    let c3 = c1 .before .before in
+    let c4 = c3 .before in
+    let loop = c4 .before in
+    omega (arith, count-moves (loop .loop .inv) (c4 .if1 .left) (c3 .read-varint .ensures) (c1 .read .given .1))
 
 loop-again : tie.Need-loop-again Inv-loop μ-loop
-loop-again c = count-next (c .before .before .before .before .before .loop .inv) (c .before .before .before .before .if1 .left) (c .before .before .before .read-varint .ensures) (c .before .read .given .1)
+loop-again c =
+    let c1 = c .before in
+    let c3 = c1 .before .before in
+    let c4 = c3 .before in
+    let loop = c4 .before in
+    count-next (loop .loop .inv) (c4 .if1 .left) (c3 .read-varint .ensures) (c1 .read .given .1)
 
 pub walk-c-varints-spec : {M : Type 1} → statement M
 walk-c-varints-spec =
