@@ -45,17 +45,38 @@ module _ (s : Bytes) (number end : ℕ) where
   after-kept zero pos h = tt
   after-kept (suc n) pos h = go (leb end pos) (field s end pos) refl (field-tells s end pos) (field-placed s end pos) (λ p k. after-kept n p k)
     where
-      kept : (b : Bool) (g : Field) → field s end (g .place) ≡ pass g → Fits pos end g → After? (g .next) (keep (λ f. eqb number (f .number)) (fieldsFrom s n end (g .next))) →
-          After? pos (elim b [ true ↦ g ∷ keep (λ f. eqb number (f .number)) (fieldsFrom s n end (g .next)) | false ↦ keep (λ f. eqb number (f .number)) (fieldsFrom s n end (g .next)) ])
-      kept true g d e ih = record { more = ap (λ (l : List Field). keep (λ f. eqb number (f .number)) l) (fields-bound s n end (g .next) (omega arith)); onward = omega arith; inside = omega arith; read = d; placed = omega arith; from = omega arith }
+      kept : (b : Bool) (g : Field) → field s end (g .place) ≡ pass g → Fits pos end g → After? (g .next) (keep (λ f. eqb number (f .number)) (fieldsFrom s n end (g .next)))
+          → After? pos (elim b [
+            | true ↦ g ∷ keep (λ f. eqb number (f .number)) (fieldsFrom s n end (g .next))
+            | false ↦ keep (λ f. eqb number (f .number)) (fieldsFrom s n end (g .next))
+          ])
+      kept true g d e ih =
+          record {
+            more = ap (λ (l : List Field). keep (λ f. eqb number (f .number)) l) (fields-bound s n end (g .next) (omega arith));
+            onward = omega arith;
+            inside = omega arith;
+            read = d;
+            placed = omega arith;
+            from = omega arith;
+          }
       kept false g d e ih = later (keep (λ f. eqb number (f .number)) (fieldsFrom s n end (g .next))) ih
         where
           later : (l : List Field) → After? (g .next) l → After? pos l
           later [] a = tt
-          later (f ∷ l) a = record { more = a .more; onward = (let k = a .onward in omega arith); inside = a .inside; read = a .read; placed = a .placed; from = (let k = a .from in omega arith) }
+          later (f ∷ l) a =
+              record {
+                more = a .more;
+                onward = (let k = a .onward in omega arith);
+                inside = a .inside;
+                read = a .read;
+                placed = a .placed;
+                from = (let k = a .from in omega arith);
+              }
 
-      go : (b : Bool) (o : Judged Field) → field s end pos ≡ o → Tells (Fits pos end) (AtTag pos) o → Tells (λ (f : Field). f .place ≡ pos) (AtTag pos) o → ((p : ℕ) → end ≤ p + n → After? p (keep (λ f. eqb number (f .number)) (fieldsFrom s n end p))) →
-          After? pos (keep (λ f. eqb number (f .number)) (elim b [ true ↦ [] | false ↦ elim o [ pass f ↦ f ∷ fieldsFrom s n end (f .next) | fail r ↦ [] ] ]))
+      go : (b : Bool) (o : Judged Field) → field s end pos ≡ o → Tells (Fits pos end) (AtTag pos) o
+          → Tells (λ (f : Field). f .place ≡ pos) (AtTag pos) o
+          → ((p : ℕ) → end ≤ p + n → After? p (keep (λ f. eqb number (f .number)) (fieldsFrom s n end p)))
+          → After? pos (keep (λ f. eqb number (f .number)) (elim b [ true ↦ [] | false ↦ elim o [ pass f ↦ f ∷ fieldsFrom s n end (f .next) | fail r ↦ [] ] ]))
       go true o d e k ih = tt
       go false (fail r) d e k ih = tt
       go false (pass g) d e k ih = kept (eqb number (g .number)) g (ap (field s end) k ∙ d) e (ih (g .next) (omega arith))
@@ -130,12 +151,14 @@ pub record Along {S : Type 0} (s : Bytes) (number end : ℕ) (step : S → Field
   pub ends : c .end ≡ end
   pub rest : each step t (allFrom s number end (c .at)) ≡ o
 
-pub along-start : {S : Type 0} (s : Bytes) (number : ℕ) (step : S → Field → Judged S) (t : S) (c : Cursor) →
-    Along s number (c .end) step (each step t (allFrom s number (c .end) (c .at))) t c
+pub along-start : {S : Type 0} (s : Bytes) (number : ℕ) (step : S → Field → Judged S) (t : S) (c : Cursor)
+    → Along s number (c .end) step (each step t (allFrom s number (c .end) (c .at))) t c
 along-start s number step t c = record { ends = refl; rest = refl }
 
 -- the loop over the message that a field holds
-pub along-contents : {S : Type 0} (s : Bytes) (number : ℕ) (step : S → Field → Judged S) (t : S) (m : Field) {c : Cursor} → c ≡ contentsOf m → each step t (allFrom s number (c .end) (c .at)) ≡ each step t (allOf number (message s m))
+pub along-contents : {S : Type 0} (s : Bytes) (number : ℕ) (step : S → Field → Judged S) (t : S) (m : Field) {c : Cursor}
+    → c ≡ contentsOf m
+    → each step t (allFrom s number (c .end) (c .at)) ≡ each step t (allOf number (message s m))
 unfolding allFrom allOf message contentsOf
 along-contents s number step t m e = rw e refl
 

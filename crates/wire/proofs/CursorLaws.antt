@@ -49,7 +49,8 @@ module _ (s : Bytes) (end pos : ℕ) {r : VarintAnswer} (read : varintSays r ≡
   unfolding tag varintSays _>>=_ _>>_ refuse_at:_when:_
   tag-bad e b = rw (← says varintSays read e, b)
 
-  pub tag-read : {v : Varint} → r ≡ varint-answer.Read v → badTag (v .value) ≡ false → pass (record { place = pos; number = v .value / 8; wire = v .value % 8; next = v .next }) ≡ tag s end pos
+  pub tag-read : {v : Varint} → r ≡ varint-answer.Read v → badTag (v .value) ≡ false
+      → pass (record { place = pos; number = v .value / 8; wire = v .value % 8; next = v .next }) ≡ tag s end pos
   unfolding tag varintSays _>>=_ _>>_ refuse_at:_when:_
   tag-read e b = rw (← says varintSays read e, b)
 
@@ -60,8 +61,9 @@ module _ (t : Tag) (end v start size : ℕ) where
   unfolding withCursor sized _>>=_ _>>_ refuse_at:_when:_
   sized-past h = simp (lt-ltb _ _ h)
 
-  pub sized-in : start + size ≤ end →
-      pass (after end (record { place = t .place; number = t .number; wire = t .wire; value = v; start = start; next = start + size })) ≡ withCursor end (sized t end v start size)
+  pub sized-in : start + size ≤ end
+      → pass (after end (record { place = t .place; number = t .number; wire = t .wire; value = v; start = start; next = start + size }))
+      ≡ withCursor end (sized t end v start size)
   unfolding withCursor sized _>>=_ _>>_ refuse_at:_when:_
   sized-in h = simp (le-ltb _ _ h)
 

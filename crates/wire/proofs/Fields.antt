@@ -31,8 +31,8 @@ module _ (model : Bytes) where
   fields-agree (suc n) zero end pos h k = fields-end (suc n) end pos (omega arith)
   fields-agree (suc n) (suc m) end pos h k = go (leb end pos) (field model end pos) (field-tells model end pos) (λ p g g′. fields-agree n m end p g g′)
     where
-      go : (b : Bool) (o : Judged Field) → Tells (Fits pos end) (AtTag pos) o → ((p : ℕ) → end ≤ p + n → end ≤ p + m → fieldsFrom model n end p ≡ fieldsFrom model m end p) →
-          _≡_ {A = List Field} (elim b [ true ↦ [] | false ↦ elim o [ pass f ↦ f ∷ fieldsFrom model n end (f .next) | fail r ↦ [] ] ])
+      go : (b : Bool) (o : Judged Field) → Tells (Fits pos end) (AtTag pos) o → ((p : ℕ) → end ≤ p + n → end ≤ p + m → fieldsFrom model n end p ≡ fieldsFrom model m end p)
+          → _≡_ {A = List Field} (elim b [ true ↦ [] | false ↦ elim o [ pass f ↦ f ∷ fieldsFrom model n end (f .next) | fail r ↦ [] ] ])
           (elim b [ true ↦ [] | false ↦ elim o [ pass f ↦ f ∷ fieldsFrom model m end (f .next) | fail r ↦ [] ] ])
       go true o e ih = refl
       go false (fail r) e ih = refl
@@ -69,7 +69,8 @@ module _ (model : Bytes) where
   from-ordered zero end pos = tt
   from-ordered (suc n) end pos = go (leb end pos) (field model end pos) (field-tells model end pos) (λ p. from-ordered n end p)
     where
-      go : (b : Bool) (o : Judged Field) → Tells (Fits pos end) (AtTag pos) o → ((p : ℕ) → Ordered p end (fieldsFrom model n end p)) → Ordered pos end (elim b [ true ↦ [] | false ↦ elim o [ pass f ↦ f ∷ fieldsFrom model n end (f .next) | fail r ↦ [] ] ])
+      go : (b : Bool) (o : Judged Field) → Tells (Fits pos end) (AtTag pos) o → ((p : ℕ) → Ordered p end (fieldsFrom model n end p))
+          → Ordered pos end (elim b [ true ↦ [] | false ↦ elim o [ pass f ↦ f ∷ fieldsFrom model n end (f .next) | fail r ↦ [] ] ])
       go true o h ih = tt
       go false (pass f) h ih = (h .0, h .1, h .2, h .3, ih (f .next))
       go false (fail r) h ih = tt
@@ -113,4 +114,5 @@ pub ordered-flat : (k : Field → List Field) → ((f : Field) → Ordered (f .s
 unfolding flatMap
 ordered-flat k one lo hi [] o = tt
 ordered-flat k one lo hi (f ∷ fs) o =
-    ordered-append lo (f .next) hi (k f) (flatMap k fs) (omega arith) (o .3) (ordered-widen lo (f .start) (f .next) (f .next) (k f) (omega arith) (omega arith) (one f)) (ordered-flat k one (f .next) hi fs (o .4))
+    ordered-append lo (f .next) hi (k f) (flatMap k fs) (omega arith) (o .3)
+    (ordered-widen lo (f .start) (f .next) (f .next) (k f) (omega arith) (omega arith) (one f)) (ordered-flat k one (f .next) hi fs (o .4))

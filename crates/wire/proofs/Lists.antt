@@ -92,7 +92,9 @@ module _ {A : Type 0} (test : A → Bool) where
       later : List·Memᴰ x l × T (test x) → List·Memᴰ x (a ∷ l) × T (test x)
       later h = (List·Memᴰ·tail (h .0), h .1)
 
-      go : (b : Bool) → test a ≡ b → List·Memᴰ x (elim b [ true ↦ a ∷ keep test l | false ↦ keep test l ]) → (List·Memᴰ x (keep test l) → List·Memᴰ x l × T (test x)) → List·Memᴰ x (a ∷ l) × T (test x)
+      go : (b : Bool) → test a ≡ b → List·Memᴰ x (elim b [ true ↦ a ∷ keep test l | false ↦ keep test l ])
+          → (List·Memᴰ x (keep test l) → List·Memᴰ x l × T (test x))
+          → List·Memᴰ x (a ∷ l) × T (test x)
       go true e n ih = elim (List·Memᴰ·cases-cons n) [
         | inl p ↦ (List·Memᴰ·head p, rw p (true-T (test a) e))
         | inr k ↦ later (ih k)
@@ -125,7 +127,9 @@ unfolding subset contains
 contains-subset [] ys n s t = absurd t
 contains-subset (x ∷ xs) ys n s t = go (contains x ys) (subset xs ys) refl refl s (or-cases (eqb n x) (contains n xs) t) (λ u v. contains-subset xs ys n u v)
   where
-    go : (b c : Bool) → contains x ys ≡ b → subset xs ys ≡ c → T (b && c) → T (eqb n x) ⊎ T (contains n xs) → (T (subset xs ys) → T (contains n xs) → T (contains n ys)) → T (contains n ys)
+    go : (b c : Bool) → contains x ys ≡ b → subset xs ys ≡ c → T (b && c) → T (eqb n x) ⊎ T (contains n xs)
+        → (T (subset xs ys) → T (contains n xs) → T (contains n ys))
+        → T (contains n ys)
     go true true e e′ h (inl q) ih = rw (eqb→eq n x q) (true-T (contains x ys) e)
     go true true e e′ h (inr q) ih = ih (true-T (subset xs ys) e′) q
     go true false e e′ h q ih = absurd h

@@ -29,7 +29,8 @@ without-cursor end none = refl
 without-cursor end (some g) = refl
 
 module _ (s : Bytes) (number : ℕ) (f : Field) where
-  pub found-first : (r : Sought) {c : Cursor} → c ≡ contentsOf f → soughtSays r ≡ soughtIn s number (c .end) (c .at) → soughtSays r ≡ foundIn (f .next) (firstOf number (message s f))
+  pub found-first : (r : Sought) {c : Cursor} → c ≡ contentsOf f → soughtSays r ≡ soughtIn s number (c .end) (c .at)
+      → soughtSays r ≡ foundIn (f .next) (firstOf number (message s f))
   unfolding soughtIn firstOf allOf message contentsOf
   found-first r k e = rw k at e
 

@@ -51,8 +51,8 @@ module _ (s : Bytes) (end start number : ℕ) where
   none-from = ap (keep (λ f. eqb number (f .number))) (fields-done s end end (omega arith))
 
   -- nothing is left at `pos`
-  pub marking-done : {pos met : ℕ} → fields s end pos ≡ [] → Marking s end start number pos met →
-      (met ≡ Front end (From s end number start)) × (From s end number met ≡ From s end number start)
+  pub marking-done : {pos met : ℕ} → fields s end pos ≡ [] → Marking s end start number pos met
+      → (met ≡ Front end (From s end number start)) × (From s end number met ≡ From s end number start)
   unfolding keep first
   marking-done {pos} {met} e k = go (ltb met end) (ltb-true met end) (ltb-false met end)
     where
@@ -65,7 +65,9 @@ module _ (s : Bytes) (end start number : ℕ) where
           let no-more : From s end number start ≡ [] = sym (k .ahead far) ∙ ap (keep (λ f. eqb number (f .number))) e in
           (at-end ∙ ap (Front end) (sym no-more), ap (From s end number) at-end ∙ none-from ∙ sym no-more)
 
-  pub marking-next : {pos met : ℕ} → Marking s end start number pos met → pos < end → {f : Field} → field s end pos ≡ pass f → {n : ℕ} → n ≡ marked met end pos (f .number) number → Marking s end start number (f .next) n
+  pub marking-next : {pos met : ℕ} → Marking s end start number pos met → pos < end → {f : Field} → field s end pos ≡ pass f → {n : ℕ}
+      → n ≡ marked met end pos (f .number) number
+      → Marking s end start number (f .next) n
   unfolding marked keep first
   marking-next {pos} {met} k h {f} e {n} en = rw en (go (ltb met end) (ltb-true met end) (ltb-false met end) (eqb number (f .number)) refl)
     where
@@ -78,7 +80,8 @@ module _ (s : Bytes) (end start number : ℕ) where
       placed : f .place ≡ pos
       placed = passed-tells (λ (g : Field). g .place ≡ pos) (AtTag pos) (field s end pos) f (field-placed s end pos) e
 
-      go : (b : Bool) → (b ≡ true → met < end) → (b ≡ false → end ≤ met) → (t : Bool) → eqb number (f .number) ≡ t → Marking s end start number (f .next) (elim b [ true ↦ met | false ↦ elim t [ true ↦ pos | false ↦ met ] ])
+      go : (b : Bool) → (b ≡ true → met < end) → (b ≡ false → end ≤ met) → (t : Bool) → eqb number (f .number) ≡ t
+          → Marking s end start number (f .next) (elim b [ true ↦ met | false ↦ elim t [ true ↦ pos | false ↦ met ] ])
       go true i l t et = let low = i refl in record { inside = k .inside; found = k .found; front = k .front; ahead = λ far. absurd (omega arith) }
       go false i l true et = record {
         inside = omega arith;
@@ -121,7 +124,9 @@ pub record Marks (s : Bytes) (a b c d e f end : ℕ) (begin : Cursor) (here : Cu
   pub fifth : Marking s end (begin .at) e (here .at) (o .fifth)
   pub sixth : Marking s end (begin .at) f (here .at) (o .sixth)
 
-pub marks-start : (s : Bytes) (a b c d e f : ℕ) {end : ℕ} (begin : Cursor) → begin .end ≡ end → Marks s a b c d e f end begin begin (record { first = end; second = end; third = end; fourth = end; fifth = end; sixth = end })
+pub marks-start : (s : Bytes) (a b c d e f : ℕ) {end : ℕ} (begin : Cursor)
+    → begin .end ≡ end
+    → Marks s a b c d e f end begin begin (record { first = end; second = end; third = end; fourth = end; fifth = end; sixth = end })
 marks-start s a b c d e f {end} begin h = record {
   ends = h;
   first = marking-start s end (begin .at) a;
@@ -132,8 +137,8 @@ marks-start s a b c d e f {end} begin h = record {
   sixth = marking-start s end (begin .at) f;
 }
 
-begins : {s : Bytes} (m : Field) {begin : Cursor} → begin ≡ contentsOf m → {number met : ℕ} →
-    (met ≡ Front (m .next) (From s (m .next) number (begin .at))) × (From s (m .next) number met ≡ From s (m .next) number (begin .at)) → Starts s m number met
+begins : {s : Bytes} (m : Field) {begin : Cursor} → begin ≡ contentsOf m → {number met : ℕ}
+    → (met ≡ Front (m .next) (From s (m .next) number (begin .at))) × (From s (m .next) number met ≡ From s (m .next) number (begin .at)) → Starts s m number met
 unfolding startOf firstOf allOf message contentsOf
 begins {s} m e {number} {met} k = record {
   place = k .0 ∙ ap (λ (c : Cursor). Front (m .next) (From s (m .next) number (c .at))) e;
@@ -155,11 +160,15 @@ module _ {s : Bytes} {a b c d e f : ℕ} (m : Field) {begin here : Cursor} {o : 
   pub marks-end : m .next ≤ here .at → Outlines s m a b c d e f o
   marks-end h = done (fields-done s (m .next) (here .at) h)
 
-  pub marks-stop : here .at < m .next → {r : FieldAnswer} → fieldSays r ≡ withCursor (here .end) (field s (here .end) (here .at)) → {x : Refusal} → r ≡ field-answer.Refused x → Outlines s m a b c d e f o
+  pub marks-stop : here .at < m .next → {r : FieldAnswer} → fieldSays r ≡ withCursor (here .end) (field s (here .end) (here .at)) → {x : Refusal}
+      → r ≡ field-answer.Refused x
+      → Outlines s m a b c d e f o
   marks-stop h {r} read {x} k = done (fields-stop s (m .next) (here .at) x h (ap (λ (n : ℕ). field s n (here .at)) (sym (q .ends)) ∙ answer-refused s here read k))
 
 -- a field more
-module _ {s : Bytes} {a b c d e f end : ℕ} {begin here : Cursor} {o : Outline} (q : Marks s a b c d e f end begin here o) (h : here .at < end) {r : FieldAnswer} (read : fieldSays r ≡ withCursor (here .end) (field s (here .end) (here .at))) {g : Field} {next : Cursor} (k : r ≡ field-answer.Read g next) where
+module _ {s : Bytes} {a b c d e f end : ℕ} {begin here : Cursor} {o : Outline} (q : Marks s a b c d e f end begin here o) (h : here .at < end)
+    {r : FieldAnswer} (read : fieldSays r ≡ withCursor (here .end) (field s (here .end) (here .at))) {g : Field} {next : Cursor}
+    (k : r ≡ field-answer.Read g next) where
   got : (field s (here .end) (here .at) ≡ pass g) × (next ≡ record { at = g .next; end = here .end })
   got = answer-read s here read k
 
@@ -175,7 +184,10 @@ module _ {s : Bytes} {a b c d e f end : ℕ} {begin here : Cursor} {o : Outline}
       let l = next-at in
       let x = fits .1 in let y = fits .2 in let z = fits .3 in let w = fits .0 in omega arith
 
-  pub marks-next : {p u v w x y : ℕ} → p ≡ marked (o .first) end (here .at) (g .number) a → u ≡ marked (o .second) end (here .at) (g .number) b → v ≡ marked (o .third) end (here .at) (g .number) c → w ≡ marked (o .fourth) end (here .at) (g .number) d → x ≡ marked (o .fifth) end (here .at) (g .number) e → y ≡ marked (o .sixth) end (here .at) (g .number) f → Marks s a b c d e f end begin next (record { first = p; second = u; third = v; fourth = w; fifth = x; sixth = y })
+  pub marks-next : {p u v w x y : ℕ} → p ≡ marked (o .first) end (here .at) (g .number) a → u ≡ marked (o .second) end (here .at) (g .number) b
+      → v ≡ marked (o .third) end (here .at) (g .number) c → w ≡ marked (o .fourth) end (here .at) (g .number) d
+      → x ≡ marked (o .fifth) end (here .at) (g .number) e → y ≡ marked (o .sixth) end (here .at) (g .number) f
+      → Marks s a b c d e f end begin next (record { first = p; second = u; third = v; fourth = w; fifth = x; sixth = y })
   marks-next ep eu ev ew ex ey = record {
     ends = ap (λ (n : Cursor). n .end) (got .1) ∙ q .ends;
     first = rw next-at (marking-next s end (begin .at) a (q .first) h got-here ep);

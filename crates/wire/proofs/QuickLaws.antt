@@ -45,11 +45,14 @@ module _ (s : Bytes) (end pos a : ℕ) (first : a ≡ byte s pos) where
     }
 
     module _ (again : 128 ≤ b) (byte-b : b < 256) (c : ℕ) (third : c ≡ byte s (pos + 2)) where
-      pub few-three : {value next : ℕ} → value ≡ a - 128 + 128 * (b - 128) + 16384 * c → next ≡ pos + 3 → next ≤ end → c < 128 → Few s end pos (record { value = value; next = next })
+      pub few-three : {value next : ℕ} → value ≡ a - 128 + 128 * (b - 128) + 16384 * c → next ≡ pos + 3 → next ≤ end → c < 128
+          → Few s end pos (record { value = value; next = next })
       few-three v e h k = record {
         inside = h;
         small = omega arith;
-        read = λ place. varint-same (omega arith) (omega arith) (turn-last (turn-more (two place (omega arith)) b (omega arith) (omega arith) second again byte-b) c (omega arith) (inr (λ z. omega arith)) (third ∙ ap (λ (x : ℕ). byte s x) (omega arith)) k);
+        read = λ place. varint-same (omega arith) (omega arith)
+            (turn-last (turn-more (two place (omega arith)) b (omega arith) (omega arith) second again byte-b) c (omega arith)
+            (inr (λ z. omega arith)) (third ∙ ap (λ (x : ℕ). byte s x) (omega arith)) k);
       }
 
 -- ---- a varint with room for ten bytes: `i` of them were read, and all go on
@@ -102,7 +105,9 @@ skip-tenth {s} {end} {pos} {i} q {b} {next} h read k e =
     record {
       value = q .value + q .scale * b;
       inside = omega (arith, q .room);
-      read = λ place. varint-same refl (omega (arith, q .there)) (go-end (q .going place) (omega (arith, q .there)) (omega (arith, q .there, q .room)) b (at-here q (read ∙ ap (λ (x : ℕ). byte s x) same)) k);
+      read = λ place. varint-same refl (omega (arith, q .there))
+          (go-end (q .going place) (omega (arith, q .there)) (omega (arith, q .there, q .room)) b (at-here q (read ∙ ap (λ (x : ℕ). byte s x) same))
+          k);
     }
 
 -- ---- a tag and its value
@@ -115,8 +120,8 @@ no-other-wire w a b c = simp (ne-eqb _ _ a, ne-eqb _ _ b, ne-eqb _ _ c) (go (eqb
     go true = refl
     go false = refl
 
-pub quick-tag : (s : Bytes) (end pos : ℕ) (v : Varint) → Few s end pos v → 8 ≤ v .value → contains (v .value % 8) wires ≡ true →
-    pass (record { place = pos; number = v .value / 8; wire = v .value % 8; next = v .next }) ≡ tag s end pos
+pub quick-tag : (s : Bytes) (end pos : ℕ) (v : Varint) → Few s end pos v → 8 ≤ v .value → contains (v .value % 8) wires ≡ true
+    → pass (record { place = pos; number = v .value / 8; wire = v .value % 8; next = v .next }) ≡ tag s end pos
 unfolding tag _>>=_ _>>_ refuse_at:_when:_
 quick-tag s end pos v q low k = rw (← q .read pos, good-tag (v .value) (v .value % 8) low (q .small) refl k)
 
@@ -151,7 +156,9 @@ module _ (s : Bytes) (t : Tag) (end : ℕ) where
       read = ap pass k ∙ fits-there (v .value) (v .next) 0 (v .next) (omega arith) h ∙ as-number w v e;
     }
 
-    pub quick-length : (v : Varint) → Few s end (t .next) v → t .wire ≡ 2 → {next : ℕ} → next ≡ v .next + v .value → next ≤ end → f ≡ fieldOf t 0 (v .next) next → QuickValue s t end f
+    pub quick-length : (v : Varint) → Few s end (t .next) v → t .wire ≡ 2 → {next : ℕ} → next ≡ v .next + v .value → next ≤ end
+        → f ≡ fieldOf t 0 (v .next) next
+        → QuickValue s t end f
     unfolding contains
     quick-length v q w {next} e h k = record {
       good = a-wire 2 w refl;
@@ -186,21 +193,25 @@ pub quick-field : {s : Bytes} {end pos : ℕ} {t : Tag} {f : Field} → QuickTag
 unfolding field _>>=_
 quick-field a b = rw (← a .read (b .good)) (sym (b .read))
 
-pub quick-answer : {s : Bytes} {end pos : ℕ} {t : Tag} {f : Field} → QuickTag s end pos t → QuickValue s t end f →
-    fieldSays (field-answer.Read f (record { at = f .next; end = end })) ≡ withCursor end (field s end pos)
+pub quick-answer : {s : Bytes} {end pos : ℕ} {t : Tag} {f : Field} → QuickTag s end pos t → QuickValue s t end f
+    → fieldSays (field-answer.Read f (record { at = f .next; end = end })) ≡ withCursor end (field s end pos)
 unfolding fieldSays withCursor after _>>=_
 quick-answer a b = rw (quick-field a b) refl
 
-pub value-answer : {s : Bytes} {t : Tag} {end : ℕ} {f : Field} → QuickValue s t end f → fieldSays (field-answer.Read f (record { at = f .next; end = end })) ≡ withCursor end (value s t end)
+pub value-answer : {s : Bytes} {t : Tag} {end : ℕ} {f : Field} → QuickValue s t end f
+    → fieldSays (field-answer.Read f (record { at = f .next; end = end })) ≡ withCursor end (value s t end)
 unfolding fieldSays withCursor after _>>=_
 value-answer b = rw (← b .read) refl
 
 -- a long number, with what the code knows of its value
-pub long-answer : {s : Bytes} {t : Tag} {end far : ℕ} → Long s t end far → {n : ℕ} → ((v : Varint) → pass v ≡ varint s (t .place) end (t .next) → n ≡ v .value) → {f : Field} → f ≡ fieldOf t n far far →
-    fieldSays (field-answer.Read f (record { at = far; end = end })) ≡ withCursor end (value s t end)
+pub long-answer : {s : Bytes} {t : Tag} {end far : ℕ} → Long s t end far → {n : ℕ}
+    → ((v : Varint) → pass v ≡ varint s (t .place) end (t .next) → n ≡ v .value) → {f : Field}
+    → f ≡ fieldOf t n far far
+    → fieldSays (field-answer.Read f (record { at = far; end = end })) ≡ withCursor end (value s t end)
 long-answer {s} {t} {end} {far} q known {f} e =
     let there : f .next ≡ far = ap (λ (g : Field). g .next) e in
-    let same : f ≡ fieldOf t (q .number .value) far far = e ∙ ap (λ (x : ℕ). fieldOf t x far far) (known (record { value = q .number .value; next = far }) (q .number .read (t .place))) in
+    let same : f ≡ fieldOf t (q .number .value) far far =
+    e ∙ ap (λ (x : ℕ). fieldOf t x far far) (known (record { value = q .number .value; next = far }) (q .number .read (t .place))) in
     ap (λ (x : ℕ). fieldSays (field-answer.Read f (record { at = x; end = end }))) (sym there) ∙ value-answer (long-value q same)
 
 -- the number that is read

@@ -31,7 +31,9 @@ Follows t end f = (f .place ≡ t .place) × (f .number ≡ t .number) × (t .ne
 
 sized-tells : (t : Tag) (end v start size : ℕ) → t .next ≤ start → Tells (Follows t end) (AtTag (t .place)) (sized t end v start size)
 unfolding sized contains
-sized-tells t end v start size h = tells-rule (Follows t end) (AtTag (t .place)) 1 _ _ _ (λ g. (tt, refl)) (λ g. let k = nltb→le end (start + size) g in (refl, refl, h, omega arith, k))
+sized-tells t end v start size h =
+    tells-rule (Follows t end) (AtTag (t .place)) 1 _ _ _ (λ g. (tt, refl))
+    (λ g. let k = nltb→le end (start + size) g in (refl, refl, h, omega arith, k))
 
 module _ (model : Bytes) where
   pub varint-tells : (left place end pos : ℕ) → Tells (λ v. pos < v .next) (AtTag place) (varintFrom model left place end pos)
@@ -61,7 +63,9 @@ module _ (model : Bytes) where
 
   pub field-tells : (end pos : ℕ) → Tells (Fits pos end) (AtTag pos) (field model end pos)
   unfolding field
-  field-tells end pos = tells-bind (λ t. (t .place ≡ pos) × (pos < t .next)) (Fits pos end) (AtTag pos) _ _ (tag-tells end pos) (λ t h. go t h (value model t end) (value-tells t end))
+  field-tells end pos =
+      tells-bind (λ t. (t .place ≡ pos) × (pos < t .next)) (Fits pos end) (AtTag pos) _ _ (tag-tells end pos)
+      (λ t h. go t h (value model t end) (value-tells t end))
     where
       go : (t : Tag) → (t .place ≡ pos) × (pos < t .next) → (o : Judged Field) → Tells (Follows t end) (AtTag (t .place)) o → Tells (Fits pos end) (AtTag pos) o
       go t h (pass f) k = (omega arith, omega arith, omega arith, omega arith)
@@ -70,7 +74,9 @@ module _ (model : Bytes) where
   -- a field lies where it was read
   pub field-placed : (end pos : ℕ) → Tells (λ (f : Field). f .place ≡ pos) (AtTag pos) (field model end pos)
   unfolding field
-  field-placed end pos = tells-bind (λ t. (t .place ≡ pos) × (pos < t .next)) (λ (f : Field). f .place ≡ pos) (AtTag pos) _ _ (tag-tells end pos) (λ t h. go t h (value model t end) (value-tells t end))
+  field-placed end pos =
+      tells-bind (λ t. (t .place ≡ pos) × (pos < t .next)) (λ (f : Field). f .place ≡ pos) (AtTag pos) _ _ (tag-tells end pos)
+      (λ t h. go t h (value model t end) (value-tells t end))
     where
       go : (t : Tag) → (t .place ≡ pos) × (pos < t .next) → (o : Judged Field) → Tells (Follows t end) (AtTag (t .place)) o → Tells (λ (f : Field). f .place ≡ pos) (AtTag pos) o
       go t h (pass f) k = omega arith

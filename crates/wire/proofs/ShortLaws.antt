@@ -24,7 +24,8 @@ good-tag t w low small e k =
     let some-number : t / 8 ≡ 0 → ⊥ = λ z. omega arith in
     rw (lt-leb _ _ small, ne-eqb _ _ some-number, e, k, badTag) refl
 
-pub sized-made : (t : Tag) (end v start size : ℕ) → start + size ≤ end → sized t end v start size ≡ pass (record { place = t .place; number = t .number; wire = t .wire; value = v; start = start; next = start + size })
+pub sized-made : (t : Tag) (end v start size : ℕ) → start + size ≤ end
+    → sized t end v start size ≡ pass (record { place = t .place; number = t .number; wire = t .wire; value = v; start = start; next = start + size })
 unfolding sized _>>_ refuse_at:_when:_
 sized-made t end v start size h = simp (le-ltb _ _ h)
 
@@ -84,14 +85,15 @@ module _ (s : Bytes) (end pos : ℕ) where
 said : (pos next t n : ℕ) → Field
 said pos next t n = record { place = pos; number = t / 8; wire = t % 8; value = elim (eqb (t % 8) 0) [ true ↦ n | false ↦ 0 ]; start = pos + 2; next = next }
 
-pub field-said : (s : Bytes) (pos next t n v : ℕ) → t ≡ byte s pos → n ≡ byte s (pos + 1) → v ≡ elim (eqb (t % 8) 0) [ true ↦ n | false ↦ 0 ] →
-    record { place = pos; number = t / 8; wire = t % 8; value = v; start = pos + 2; next = next } ≡ shortField s pos next
+pub field-said : (s : Bytes) (pos next t n v : ℕ) → t ≡ byte s pos → n ≡ byte s (pos + 1) → v ≡ elim (eqb (t % 8) 0) [ true ↦ n | false ↦ 0 ]
+    → record { place = pos; number = t / 8; wire = t % 8; value = v; start = pos + 2; next = next } ≡ shortField s pos next
 unfolding shortField said
 field-said s pos next t n v a b e =
     ap (λ (x : ℕ). record { place = pos; number = t / 8; wire = t % 8; value = x; start = pos + 2; next = next }) e
     ∙ ap (λ (x : ℕ). said pos next x n) a
     ∙ ap (λ (y : ℕ). said pos next (byte s pos) y) b
 
-pub short-answer : {s : Bytes} {end pos next : ℕ} → Short s end pos next → {f : Field} → f ≡ shortField s pos next → fieldSays (field-answer.Read f (record { at = next; end = end })) ≡ withCursor end (field s end pos)
+pub short-answer : {s : Bytes} {end pos next : ℕ} → Short s end pos next → {f : Field} → f ≡ shortField s pos next
+    → fieldSays (field-answer.Read f (record { at = next; end = end })) ≡ withCursor end (field s end pos)
 unfolding fieldSays withCursor after shortField _>>=_
 short-answer q e = rw (q .read) (rw e refl)

@@ -78,7 +78,8 @@ module _ {x y : Bytes} where
       let one = digit _ _ _ _ (f .first) (g .first) (sym (f .is) ∙ e ∙ g .is) in
       let two = digit _ _ _ _ (f .second) (g .second) (one .1) in
       let three = digit _ _ _ _ (f .third) (g .third) (two .1) in
-      let done = compare-next (compare-next (compare-next (compare-next c (omega arith) (one .0)) (omega arith) (two .0)) (omega arith) (moved x y (omega arith) (three .0))) (omega arith) (moved x y (omega arith) (three .1)) in
+      let done = compare-next (compare-next (compare-next (compare-next c (omega arith) (one .0)) (omega arith) (two .0)) (omega arith)
+      (moved x y (omega arith) (three .0))) (omega arith) (moved x y (omega arith) (three .1)) in
       let there : i + 1 + 1 + 1 + 1 ≡ i + 4 = omega arith in
       rw there at done
 

@@ -51,7 +51,9 @@ module _ {E B : Type 0} (R : B → Type 0) (P : E → Type 0) where
   tells-if true x y h k = h tt
   tells-if false x y h k = k tt
 
-  pub tells-option : {X : Type 0} (Q : X → Type 0) (o : Option X) (x : Outcome E B) (k : X → Outcome E B) → If Q o → Tells R P x → ((a : X) → Q a → Tells R P (k a)) → Tells {A = B} R P (elim o [ none ↦ x | some a ↦ k a ])
+  pub tells-option : {X : Type 0} (Q : X → Type 0) (o : Option X) (x : Outcome E B) (k : X → Outcome E B)
+      → If Q o → Tells R P x → ((a : X) → Q a → Tells R P (k a))
+      → Tells {A = B} R P (elim o [ none ↦ x | some a ↦ k a ])
   tells-option Q none x k q h i = h
   tells-option Q (some a) x k q h i = i a q
 

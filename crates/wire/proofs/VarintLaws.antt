@@ -38,19 +38,26 @@ module _ (s : Bytes) (place end pos : ℕ) where
       go true e (inl a) = T-false (ltb 1 b) (no-leb {a = 2} {b = b} (omega (arith, a .1)))
       go true e (inr a) = absurd (a (ap suc (e tt)))
 
-  varint-last : (left : ℕ) → 1 ≤ left → pos < end → Allowed left (byte s pos) → byte s pos < 128 → varintFrom s left place end pos ≡ pass (record { value = byte s pos; next = pos + 1 })
+  varint-last : (left : ℕ) → 1 ≤ left → pos < end → Allowed left (byte s pos) → byte s pos < 128
+      → varintFrom s left place end pos ≡ pass (record { value = byte s pos; next = pos + 1 })
   unfolding varintFrom _>>_ refuse_at:_when:_
   varint-last zero l h a b = absurd (omega arith)
   varint-last (suc left) l h a b =
       rw (T-false (leb end pos) (no-leb h), tenth-passes left (byte s pos) a, T-true (ltb (byte s pos) 128) (le→leb (suc (byte s pos)) 128 b), varintFrom) refl
 
-  varint-more : (left : ℕ) → 2 ≤ left → pos < end → 128 ≤ byte s pos →
-      varintFrom s left place end pos ≡ (varintFrom s (left - 1) place end (pos + 1) >>= λ high. pass (record { value = byte s pos % 128 + 128 * high .value; next = high .next }))
+  varint-more : (left : ℕ) → 2 ≤ left → pos < end → 128 ≤ byte s pos
+      → varintFrom s left place end pos
+      ≡ (varintFrom s (left - 1) place end (pos + 1) >>= λ high. pass (record { value = byte s pos % 128 + 128 * high .value; next = high .next }))
   unfolding varintFrom _>>_ refuse_at:_when:_
   varint-more zero l h b = absurd (omega arith)
   varint-more (suc left) l h b =
       let e : suc left - 1 ≡ left = omega arith in
-      rw e (rw (T-false (leb end pos) (no-leb h), tenth-passes left (byte s pos) (inr (λ q. omega arith)), T-false (ltb (byte s pos) 128) (no-leb {a = suc (byte s pos)} {b = 128} (omega arith)), varintFrom) refl)
+      rw e (rw (
+        T-false (leb end pos) (no-leb h),
+        tenth-passes left (byte s pos) (inr (λ q. omega arith)),
+        T-false (ltb (byte s pos) 128) (no-leb {a = suc (byte s pos)} {b = 128} (omega arith)),
+        varintFrom,
+      ) refl)
 
 -- ---- the loop
 
@@ -81,8 +88,8 @@ unfolding onto _>>=_
 onto-nothing (pass w) = ap (λ (x : ℕ). pass (record { value = x; next = w .next })) (omega arith)
 onto-nothing (fail r) = refl
 
-onto-more : (v sc b : ℕ) (o : Judged Varint) → 128 ≤ b → b < 256 →
-    onto (v + sc * (b - 128)) (sc * 128) o ≡ onto v sc (o >>= λ high. pass (record { value = b % 128 + 128 * high .value; next = high .next }))
+onto-more : (v sc b : ℕ) (o : Judged Varint) → 128 ≤ b → b < 256
+    → onto (v + sc * (b - 128)) (sc * 128) o ≡ onto v sc (o >>= λ high. pass (record { value = b % 128 + 128 * high .value; next = high .next }))
 unfolding onto _>>=_
 onto-more v sc b (pass w) lo hi =
     let m : b % 128 ≡ b - 128 = omega arith in
@@ -132,7 +139,11 @@ module _ {s : Bytes} {place end from value scale left pos : ℕ} (q : Reading s 
     low = omega (arith, q .low, mul-le-mul-left scale j);
     some = omega arith;
     room = mul-assoc scale 128 (limit (left - 1)) ∙ ap (λ (x : ℕ). scale * x) (sym (limit-more left l)) ∙ q .room;
-    whole = onto-more value scale b _ k hi ∙ ap (onto value scale) (ap (λ (x : ℕ). varintFrom s (left - 1) place end (pos + 1) >>= λ high. pass (record { value = x % 128 + 128 * high .value; next = high .next })) e ∙ sym (varint-more s place end pos left l h (rw e at k))) ∙ q .whole;
+    whole = onto-more value scale b _ k hi
+        ∙ ap (onto value scale) (ap (λ (x : ℕ). varintFrom s (left - 1) place end (pos + 1)
+        >>= λ high. pass (record { value = x % 128 + 128 * high .value; next = high .next })) e
+        ∙ sym (varint-more s place end pos left l h (rw e at k)))
+        ∙ q .whole;
   }
 
 pub one-byte : (s : Bytes) (place end from b : ℕ) → from < end → b ≡ byte s from → b < 128 → pass (record { value = b; next = from + 1 }) ≡ varint s place end from

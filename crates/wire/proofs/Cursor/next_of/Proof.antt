@@ -28,8 +28,8 @@ returns-2 c =
     let c5 = c4 .before in
     let c7 = c5 .before .before in
     let c8 = c7 .before in
-    let c9 = c8 .before in
-    seek-found (c9 .loop .inv) (c8 .if1 .left) (quick-answer (c7 .quick-tag .ensures (c5 .if2 .taken)) (c4 .quick-value .ensures (c2 .if3 .taken))) refl (c .if4 .taken)
+    let loop = c8 .before in
+    seek-found (loop .loop .inv) (c8 .if1 .left) (quick-answer (c7 .quick-tag .ensures (c5 .if2 .taken)) (c4 .quick-value .ensures (c2 .if3 .taken))) refl (c .if4 .taken)
 
 loop-less : tie.Need-loop-less Inv-loop μ-loop
 loop-less c =
@@ -38,8 +38,8 @@ loop-less c =
     let c5 = c4 .before in
     let c7 = c5 .before .before in
     let c8 = c7 .before in
-    let c9 = c8 .before in
-    seek-falls (c9 .loop .inv) (c8 .if1 .left) (quick-answer (c7 .quick-tag .ensures (c5 .if2 .taken)) (c4 .quick-value .ensures (c2 .if3 .taken))) refl
+    let loop = c8 .before in
+    seek-falls (loop .loop .inv) (c8 .if1 .left) (quick-answer (c7 .quick-tag .ensures (c5 .if2 .taken)) (c4 .quick-value .ensures (c2 .if3 .taken))) refl
 
 loop-again : tie.Need-loop-again Inv-loop μ-loop
 loop-again c =
@@ -48,8 +48,8 @@ loop-again c =
     let c5 = c4 .before in
     let c7 = c5 .before .before in
     let c8 = c7 .before in
-    let c9 = c8 .before in
-    seek-next (c9 .loop .inv) (c8 .if1 .left) (quick-answer (c7 .quick-tag .ensures (c5 .if2 .taken)) (c4 .quick-value .ensures (c2 .if3 .taken))) refl (c .if4 .left)
+    let loop = c8 .before in
+    seek-next (loop .loop .inv) (c8 .if1 .left) (quick-answer (c7 .quick-tag .ensures (c5 .if2 .taken)) (c4 .quick-value .ensures (c2 .if3 .taken))) refl (c .if4 .left)
 
 loop-less-2 : tie.Need-loop-less-2 Inv-loop μ-loop
 loop-less-2 c =
@@ -58,8 +58,8 @@ loop-less-2 c =
     let c7 = c3 .before .before .before .before in
     let c9 = c7 .before .before in
     let c10 = c9 .before in
-    let c11 = c10 .before in
-    seek-falls (c11 .loop .inv) (c10 .if1 .left) (quick-answer (c9 .quick-tag .ensures (c7 .if2 .taken)) (long-value (c3 .long-end .ensures (c2 .if5 .taken)) refl)) refl
+    let loop = c10 .before in
+    seek-falls (loop .loop .inv) (c10 .if1 .left) (quick-answer (c9 .quick-tag .ensures (c7 .if2 .taken)) (long-value (c3 .long-end .ensures (c2 .if5 .taken)) refl)) refl
 
 loop-again-2 : tie.Need-loop-again-2 Inv-loop μ-loop
 loop-again-2 c =
@@ -68,16 +68,17 @@ loop-again-2 c =
     let c7 = c3 .before .before .before .before in
     let c9 = c7 .before .before in
     let c10 = c9 .before in
-    let c11 = c10 .before in
-    seek-next (c11 .loop .inv) (c10 .if1 .left) (quick-answer (c9 .quick-tag .ensures (c7 .if2 .taken)) (long-value (c3 .long-end .ensures (c2 .if5 .taken)) refl)) refl (c .if6 .taken)
+    let loop = c10 .before in
+    seek-next (loop .loop .inv) (c10 .if1 .left)
+    (quick-answer (c9 .quick-tag .ensures (c7 .if2 .taken)) (long-value (c3 .long-end .ensures (c2 .if5 .taken)) refl)) refl (c .if6 .taken)
 
 returns-3 : tie.Need-returns-3 Inv-loop μ-loop
 unfolding soughtSays
 returns-3 c =
     let c2 = c .before .before in
     let c6 = c2 .before .before .before .before in
-    let c7 = c6 .before in
-    seek-stop (c7 .loop .inv) (c6 .if1 .left) (c2 .quick-field .ensures) (c .enum-told .given .1)
+    let loop = c6 .before in
+    seek-stop (loop .loop .inv) (c6 .if1 .left) (c2 .quick-field .ensures) (c .enum-told .given .1)
 
 returns-4 : tie.Need-returns-4 Inv-loop μ-loop
 unfolding soughtSays
@@ -85,24 +86,24 @@ returns-4 c =
     let c3 = c .before .before .before in
     let c5 = c3 .before .before in
     let c9 = c5 .before .before .before .before in
-    let c10 = c9 .before in
-    seek-found (c10 .loop .inv) (c9 .if1 .left) (c5 .quick-field .ensures) (c3 .read .given .1) (c .if7 .taken)
+    let loop = c9 .before in
+    seek-found (loop .loop .inv) (c9 .if1 .left) (c5 .quick-field .ensures) (c3 .read .given .1) (c .if7 .taken)
 
 loop-less-3 : tie.Need-loop-less-3 Inv-loop μ-loop
 loop-less-3 c =
     let c3 = c .before .before .before in
     let c5 = c3 .before .before in
     let c9 = c5 .before .before .before .before in
-    let c10 = c9 .before in
-    seek-falls (c10 .loop .inv) (c9 .if1 .left) (c5 .quick-field .ensures) (c3 .read .given .1)
+    let loop = c9 .before in
+    seek-falls (loop .loop .inv) (c9 .if1 .left) (c5 .quick-field .ensures) (c3 .read .given .1)
 
 loop-again-3 : tie.Need-loop-again-3 Inv-loop μ-loop
 loop-again-3 c =
     let c3 = c .before .before .before in
     let c5 = c3 .before .before in
     let c9 = c5 .before .before .before .before in
-    let c10 = c9 .before in
-    seek-on (seek-next (c10 .loop .inv) (c9 .if1 .left) (c5 .quick-field .ensures) (c3 .read .given .1) (c .if7 .left))
+    let loop = c9 .before in
+    seek-on (seek-next (loop .loop .inv) (c9 .if1 .left) (c5 .quick-field .ensures) (c3 .read .given .1) (c .if7 .left))
 
 pub next-of-spec : {M : Type 1} → statement M
 next-of-spec =

@@ -24,17 +24,17 @@ returns-2 : tie.Need-returns-2 Inv-loop μ-loop
 returns-2 c =
     let c2 = c .before .before in
     let c3 = c2 .before in
-    let c4 = c3 .before in
-    let c5 = c4 .before in
-    marks-stop _ (c4 .loop .inv) (c5 .contents .ensures) (c3 .if1 .left) (c2 .field .ensures) (c .enum-told .given .1)
+    let loop = c3 .before in
+    let c5 = loop .before in
+    marks-stop _ (loop .loop .inv) (c5 .contents .ensures) (c3 .if1 .left) (c2 .field .ensures) (c .enum-told .given .1)
 
 loop-less : tie.Need-loop-less Inv-loop μ-loop
 loop-less c =
     let c7 = c .before .before .before .before .before .before .before in
     let c9 = c7 .before .before in
     let c10 = c9 .before in
-    let c11 = c10 .before in
-    marks-falls (c11 .loop .inv) (c10 .if1 .left) (c9 .field .ensures) (c7 .read .given .1)
+    let loop = c10 .before in
+    marks-falls (loop .loop .inv) (c10 .if1 .left) (c9 .field .ensures) (c7 .read .given .1)
 
 loop-again : tie.Need-loop-again Inv-loop μ-loop
 loop-again c =
@@ -46,8 +46,9 @@ loop-again c =
     let c7 = c5 .before .before in
     let c9 = c7 .before .before in
     let c10 = c9 .before in
-    let c11 = c10 .before in
-    marks-next (c11 .loop .inv) (c10 .if1 .left) (c9 .field .ensures) (c7 .read .given .1) (c5 .mark .ensures) (c4 .mark2 .ensures) (c3 .mark3 .ensures) (c2 .mark4 .ensures) (c1 .mark5 .ensures) (c .mark6 .ensures)
+    let loop = c10 .before in
+    marks-next (loop .loop .inv) (c10 .if1 .left) (c9 .field .ensures) (c7 .read .given .1) (c5 .mark .ensures) (c4 .mark2 .ensures)
+    (c3 .mark3 .ensures) (c2 .mark4 .ensures) (c1 .mark5 .ensures) (c .mark6 .ensures)
 
 pub outline-spec : {M : Type 1} → statement M
 outline-spec =

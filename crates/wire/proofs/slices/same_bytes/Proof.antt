@@ -25,20 +25,20 @@ loop-holds c = c .before .same-eights .ensures .0 (not-false _ (c .if2 .left))
 
 shared-slice-read-if3-2 : tie.Need-shared-slice-read-if3-2 Inv-loop μ-loop
 shared-slice-read-if3-2 c =
-    let c3 = c .before .before .before in
-    omega (arith, c3 .loop .inv .long)
+    let loop = c .before .before .before in
+    omega (arith, loop .loop .inv .long)
 
 returns-3 : tie.Need-returns-3 Inv-loop μ-loop
 returns-3 c =
     let c3 = c .before .before .before in
-    let c4 = c3 .before in
-    compare-differ (c4 .loop .inv) (c3 .loop-test .taken) (c .if3 .taken)
+    let loop = c3 .before in
+    compare-differ (loop .loop .inv) (c3 .loop-test .taken) (c .if3 .taken)
 
 loop-again : tie.Need-loop-again Inv-loop μ-loop
 loop-again c =
     let c3 = c .before .before .before in
-    let c4 = c3 .before in
-    compare-next (c4 .loop .inv) (c3 .loop-test .taken) (c .if3 .left)
+    let loop = c3 .before in
+    compare-next (loop .loop .inv) (c3 .loop-test .taken) (c .if3 .left)
 
 returns-4 : tie.Need-returns-4 Inv-loop μ-loop
 returns-4 c = compare-end (c .before .loop .inv) (c .loop-test .left)

@@ -21,9 +21,9 @@ eight-requires c κs = stride-room (c .before .loop .inv) (c .loop-test .taken)
 eight-requires-2 : tie.Need-eight-requires-2 Inv-loop μ-loop
 eight-requires-2 c κs =
     let c1 = c .before in
-    let c2 = c1 .before in
-    let c5 = c2 .before .before .before in
-    omega (arith, stride-room (c2 .loop .inv) (c1 .loop-test .taken), c5 .pre)
+    let loop = c1 .before in
+    let entry = loop .before .before .before in
+    omega (arith, stride-room (loop .loop .inv) (c1 .loop-test .taken), entry .pre)
 
 returns : tie.Need-returns Inv-loop μ-loop
 returns c = stride-differs (c .before .before .eight .ensures) (c .before .eight2 .ensures) (c .if1 .taken)
@@ -31,16 +31,16 @@ returns c = stride-differs (c .before .before .eight .ensures) (c .before .eight
 add-i : tie.Need-add-i Inv-loop μ-loop
 add-i c =
     let c3 = c .before .before .before in
-    let c4 = c3 .before in
-    omega (arith, stride-room (c4 .loop .inv) (c3 .loop-test .taken))
+    let loop = c3 .before in
+    omega (arith, stride-room (loop .loop .inv) (c3 .loop-test .taken))
 
 loop-again : tie.Need-loop-again Inv-loop μ-loop
 loop-again c =
     let c1 = c .before in
     let c2 = c1 .before in
     let c3 = c2 .before in
-    let c4 = c3 .before in
-    stride-on (c4 .loop .inv) (c3 .loop-test .taken) (c2 .eight .ensures) (c1 .eight2 .ensures) (c .if1 .left)
+    let loop = c3 .before in
+    stride-on (loop .loop .inv) (c3 .loop-test .taken) (c2 .eight .ensures) (c1 .eight2 .ensures) (c .if1 .left)
 
 returns-2 : tie.Need-returns-2 Inv-loop μ-loop
 returns-2 c = stride-end (c .before .loop .inv) (c .loop-test .left)

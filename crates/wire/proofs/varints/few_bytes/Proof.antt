@@ -37,7 +37,9 @@ returns-7 c =
     let c5 = c4 .before in
     let c8 = c5 .before .before .before in
     let c9 = c8 .before in
-    λ h. few-three _ _ _ _ (c9 .wide .ensures .0) (c8 .if3 .left) (c9 .wide .ensures .1) _ (c5 .wide2 .ensures .0) (c4 .if5 .left) (c5 .wide2 .ensures .1) _ (c1 .wide3 .ensures .0) (omega arith) (omega arith) (omega arith) (c .if7 .taken)
+    λ h.
+    few-three _ _ _ _ (c9 .wide .ensures .0) (c8 .if3 .left) (c9 .wide .ensures .1) _ (c5 .wide2 .ensures .0) (c4 .if5 .left) (c5 .wide2 .ensures .1)
+    _ (c1 .wide3 .ensures .0) (omega arith) (omega arith) (omega arith) (c .if7 .taken)
 
 returns-8 : tie.Need-returns-8
 returns-8 c = λ h. absurd (omega (arith, c .unread5 .ensures))

@@ -29,16 +29,16 @@ unfolding byte
 returns-4 c =
     let c1 = c .before in
     let c3 = c1 .before .before in
-    let c4 = c3 .before in
-    λ h. skip-last (c4 .loop .inv) (c1 .wide .ensures .0) (c3 .loop-test .taken) (c .if4 .taken) (omega arith)
+    let loop = c3 .before in
+    λ h. skip-last (loop .loop .inv) (c1 .wide .ensures .0) (c3 .loop-test .taken) (c .if4 .taken) (omega arith)
 
 loop-again : tie.Need-loop-again Inv-loop μ-loop
 unfolding byte
 loop-again c =
     let c1 = c .before in
     let c3 = c1 .before .before in
-    let c4 = c3 .before in
-    skip-more (c4 .loop .inv) (c1 .wide .ensures .0) (c3 .loop-test .taken) (c .if4 .left) (c1 .wide .ensures .1)
+    let loop = c3 .before in
+    skip-more (loop .loop .inv) (c1 .wide .ensures .0) (c3 .loop-test .taken) (c .if4 .left) (c1 .wide .ensures .1)
 
 returns-5 : tie.Need-returns-5 Inv-loop μ-loop
 returns-5 c = λ h. absurd (omega arith)
@@ -48,8 +48,8 @@ unfolding byte
 returns-6 c =
     let c1 = c .before in
     let c3 = c1 .before .before in
-    let c4 = c3 .before in
-    λ h. skip-tenth (c4 .loop .inv) (c3 .loop-test .left) (c1 .wide2 .ensures .0) (c .if5 .left) (omega arith)
+    let loop = c3 .before in
+    λ h. skip-tenth (loop .loop .inv) (c3 .loop-test .left) (c1 .wide2 .ensures .0) (c .if5 .left) (omega arith)
 
 pub many-end-spec : {M : Type 1} → statement M
 many-end-spec =

@@ -34,7 +34,11 @@ unfolding varintSays
 returns-3 c = go-last (c .before .before .before .loop .inv) (c .before .before .loop-test .taken) _ (c .before .byte-at2 .ensures .0) (c .if3 .taken)
 
 mul-value : tie.Need-mul-value Inv-loop μ-loop
-mul-value c = record { fits = omega (arith, go-small (c .before .before .before .loop .inv) (c .before .before .loop-test .taken) (c .before .byte-at2 .result - 128) (omega arith)) }
+mul-value c =
+    let c1 = c .before in
+    let c2 = c1 .before in
+    let loop = c2 .before in
+    record { fits = omega (arith, go-small (loop .loop .inv) (c2 .loop-test .taken) (c1 .byte-at2 .result - 128) (omega arith)) }
 
 add-value : tie.Need-add-value Inv-loop μ-loop
 add-value c = record { fits = go-small (c .before .before .before .loop .inv) (c .before .before .loop-test .taken) (c .before .byte-at2 .result - 128) (omega arith) }
@@ -43,23 +47,48 @@ mul-scale : tie.Need-mul-scale Inv-loop μ-loop
 mul-scale c = record { fits = go-scale (c .before .before .before .loop .inv) (c .before .before .loop-test .taken) }
 
 loop-again : tie.Need-loop-again Inv-loop μ-loop
-loop-again c = go-more (c .before .before .before .loop .inv) (c .before .before .loop-test .taken) _ (c .before .byte-at2 .ensures .0) (c .if3 .left) (c .before .byte-at2 .ensures .1)
+loop-again c =
+    let c1 = c .before in
+    let c2 = c1 .before in
+    let loop = c2 .before in
+    go-more (loop .loop .inv) (c2 .loop-test .taken) _ (c1 .byte-at2 .ensures .0) (c .if3 .left) (c1 .byte-at2 .ensures .1)
 
 returns-4 : tie.Need-returns-4 Inv-loop μ-loop
 returns-4 c = c .refused2 .ensures ∙ go-past (c .before .before .before .loop .inv) (c .before .if4 .taken)
 
 returns-5 : tie.Need-returns-5 Inv-loop μ-loop
-returns-5 c = c .refused3 .ensures ∙ go-tenth (c .before .before .before .before .before .loop .inv) (c .before .before .before .before .loop-test .left) (c .before .before .before .if4 .left) _ (c .before .before .byte-at3 .ensures .0) (c .before .if5 .taken)
+returns-5 c =
+    let c1 = c .before in
+    let c2 = c1 .before in
+    let c3 = c2 .before in
+    let c4 = c3 .before in
+    let loop = c4 .before in
+    c .refused3 .ensures ∙ go-tenth (loop .loop .inv) (c4 .loop-test .left) (c3 .if4 .left) _ (c2 .byte-at3 .ensures .0) (c1 .if5 .taken)
 
 mul-t22 : tie.Need-mul-t22 Inv-loop μ-loop
-mul-t22 c = record { fits = omega (arith, go-fits (c .before .before .before .before .loop .inv) (c .before .before .before .loop-test .left) (c .before .before .if4 .left) (c .before .byte-at3 .result) (c .if5 .left)) }
+mul-t22 c =
+    let c1 = c .before in
+    let c2 = c1 .before in
+    let c3 = c2 .before in
+    let loop = c3 .before in
+    record { fits = omega (arith, go-fits (loop .loop .inv) (c3 .loop-test .left) (c2 .if4 .left) (c1 .byte-at3 .result) (c .if5 .left)) }
 
 add-t23 : tie.Need-add-t23 Inv-loop μ-loop
-add-t23 c = record { fits = go-fits (c .before .before .before .before .loop .inv) (c .before .before .before .loop-test .left) (c .before .before .if4 .left) (c .before .byte-at3 .result) (c .if5 .left) }
+add-t23 c =
+    let c1 = c .before in
+    let c2 = c1 .before in
+    let c3 = c2 .before in
+    let loop = c3 .before in
+    record { fits = go-fits (loop .loop .inv) (c3 .loop-test .left) (c2 .if4 .left) (c1 .byte-at3 .result) (c .if5 .left) }
 
 returns-6 : tie.Need-returns-6 Inv-loop μ-loop
 unfolding varintSays
-returns-6 c = go-end (c .before .before .before .before .loop .inv) (c .before .before .before .loop-test .left) (c .before .before .if4 .left) _ (c .before .byte-at3 .ensures .0) (c .if5 .left)
+returns-6 c =
+    let c1 = c .before in
+    let c2 = c1 .before in
+    let c3 = c2 .before in
+    let loop = c3 .before in
+    go-end (loop .loop .inv) (c3 .loop-test .left) (c2 .if4 .left) _ (c1 .byte-at3 .ensures .0) (c .if5 .left)
 
 pub read-varint-spec : {M : Type 1} → statement M
 read-varint-spec =
