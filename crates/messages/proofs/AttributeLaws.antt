@@ -54,7 +54,8 @@ module _ (model : Bytes) (names : List Bytes) (f : Field) where
       ∙ ap (λ (o : Rule). refuse 31 at: x .place when: member (x .bytes) names >> o)
       (silent-rule 33 _ _ _
       ∙ ap (λ (o : Rule). refuse 33 at: f .place when: not (isEmpty (bytesOf model Attribute·ref-attr-name (message model f))) >> o)
-      (silent-last 32 _ _ _ (ap (λ (o : Judged Walk). silent {A = Along} (o >>= λ v. pass (record { walk = v; earlier = x .bytes ∷ names }))) (bodies-pass start (bodiesOf (message model f))))))
+      (silent-last 32 _ _ _ (ap (λ (o : Judged Walk). silent {A = Along} (o >>= λ v. pass (record { walk = v; earlier = x .bytes ∷ names })))
+      (bodies-pass start (bodiesOf (message model f))))))
 
   pub asked : silent (attribute model passing (after names) f) ≡ (naming model 22 Attribute·name (message model f) >>= Asked)
   unfolding attribute after message Named
@@ -79,9 +80,14 @@ module _ (model : Bytes) (names : List Bytes) (f : Field) where
         attribute-twice h = sym (when-broken 31 (g .place) _ (twice ∙ h)) ∙ named-by
 
         module _ (h : b ≡ false) {y : Bytes} (j : y ≡ bytesOf model Attribute·ref-attr-name (message model f)) where
-          unique : Asked (nameIn model g) ≡ (refuse 33 at: f .place when: not (isEmpty y) >> refuse 32 at: f .place when: badValue (numberOf Attribute·type (message model f)) (message model f))
+          unique : Asked (nameIn model g)
+              ≡ (refuse 33 at: f .place when: not (isEmpty y)
+              >> refuse 32 at: f .place when: badValue (numberOf Attribute·type (message model f)) (message model f))
           unfolding Asked nameIn
-          unique = when-kept 31 (g .place) _ (twice ∙ h) ∙ ap (λ (z : Bytes). refuse 33 at: f .place when: not (isEmpty z) >> refuse 32 at: f .place when: badValue (numberOf Attribute·type (message model f)) (message model f)) (sym j)
+          unique =
+              when-kept 31 (g .place) _ (twice ∙ h)
+              ∙ ap (λ (z : Bytes). refuse 33 at: f .place when: not (isEmpty z)
+              >> refuse 32 at: f .place when: badValue (numberOf Attribute·type (message model f)) (message model f)) (sym j)
 
           pub attribute-refers : (length y ≡ 0 → ⊥) → refused 33 (f .place) ≡ silent (attribute model passing (after names) f)
           attribute-refers l = sym (unique ∙ when-broken 33 (f .place) _ (ap not (empty-some y l))) ∙ named-by

@@ -38,7 +38,8 @@ unfolding contains lookup
 lookup-none n [] h = refl
 lookup-none n (e ∷ l) h = go (eqb n (e .0)) refl h (lookup-none n l)
   where
-    go : (b : Bool) → eqb n (e .0) ≡ b → false ≡ (b || contains n (types l)) → (false ≡ contains n (types l) → none ≡ lookup n l) → _≡_ {A = Option ℕ} none (elim b [ true ↦ some (e .1) | false ↦ lookup n l ])
+    go : (b : Bool) → eqb n (e .0) ≡ b → false ≡ (b || contains n (types l)) → (false ≡ contains n (types l) → none ≡ lookup n l)
+        → _≡_ {A = Option ℕ} none (elim b [ true ↦ some (e .1) | false ↦ lookup n l ])
     go true q k ih = absurd (true≢false (sym k))
     go false q k ih = ih k
 
@@ -78,8 +79,8 @@ foreign-nothing mine place (e ∷ cs) = go (eqb (e .1) mine) (foreign-nothing mi
     go true h = h
     go false h = h
 
-foreign-more : (mine place : ℕ) (cs : List (ℕ × ℕ)) (f : Field) (fs : List Field) →
-    foreign mine cs (Holding place (f ∷ fs)) ≡ ((not (eqb (f .number) mine) && contains (f .number) (map (λ c. c .1) cs)) || foreign mine cs (Holding place fs))
+foreign-more : (mine place : ℕ) (cs : List (ℕ × ℕ)) (f : Field) (fs : List Field)
+    → foreign mine cs (Holding place (f ∷ fs)) ≡ ((not (eqb (f .number) mine) && contains (f .number) (map (λ c. c .1) cs)) || foreign mine cs (Holding place fs))
 unfolding foreign allOf keep isEmpty contains Holding
 foreign-more mine place [] f fs = none (not (eqb (f .number) mine))
   where
@@ -92,18 +93,22 @@ foreign-more mine place (e ∷ cs) f fs = go (eqb (e .1) (f .number)) refl (eqb 
     one q true c k r h = rw h refl
     one q false c k r h = rw h refl
 
-    go : (b : Bool) → eqb (e .1) (f .number) ≡ b → (d : Bool) → eqb (f .number) (e .1) ≡ d → (r : Bool) →
-        r ≡ ((not (eqb (f .number) mine) && contains (f .number) (map (λ c. c .1) cs)) || foreign mine cs (Holding place fs)) →
-        ((not (eqb (e .1) mine) && not (isEmpty {A = Field} (elim b [ true ↦ f ∷ keep (λ g. eqb (e .1) (g .number)) fs | false ↦ keep (λ g. eqb (e .1) (g .number)) fs ]))) || r)
-        ≡ ((not (eqb (f .number) mine) && (d || contains (f .number) (map (λ c. c .1) cs))) || ((not (eqb (e .1) mine) && not (isEmpty (keep (λ g. eqb (e .1) (g .number)) fs))) || foreign mine cs (Holding place fs)))
+    go : (b : Bool) → eqb (e .1) (f .number) ≡ b → (d : Bool) → eqb (f .number) (e .1) ≡ d → (r : Bool)
+        → r ≡ ((not (eqb (f .number) mine) && contains (f .number) (map (λ c. c .1) cs)) || foreign mine cs (Holding place fs))
+        → ((not (eqb (e .1) mine) && not (isEmpty {A = Field} (elim b [ true ↦ f ∷ keep (λ g. eqb (e .1) (g .number)) fs | false ↦ keep (λ g. eqb (e .1) (g .number)) fs ]))) || r)
+        ≡ ((not (eqb (f .number) mine) && (d || contains (f .number) (map (λ c. c .1) cs)))
+        || ((not (eqb (e .1) mine) && not (isEmpty (keep (λ g. eqb (e .1) (g .number)) fs))) || foreign mine cs (Holding place fs)))
     go true h true k r ih =
         ap (λ (x : Bool). (not (eqb (e .1) mine) && true) || x) ih
-        ∙ one (not (eqb (e .1) mine)) (not (eqb (f .number) mine)) (contains (f .number) (map (λ c. c .1) cs)) (not (isEmpty (keep (λ g. eqb (e .1) (g .number)) fs))) (foreign mine cs (Holding place fs)) (ap (λ (n : ℕ). not (eqb n mine)) (eqb→eq (e .1) (f .number) (true-T (eqb (e .1) (f .number)) h)))
+        ∙ one (not (eqb (e .1) mine)) (not (eqb (f .number) mine)) (contains (f .number) (map (λ c. c .1) cs))
+        (not (isEmpty (keep (λ g. eqb (e .1) (g .number)) fs))) (foreign mine cs (Holding place fs))
+        (ap (λ (n : ℕ). not (eqb n mine)) (eqb→eq (e .1) (f .number) (true-T (eqb (e .1) (f .number)) h)))
     go true h false k r ih = absurd (true≢false (sym (eq-eqb (f .number) (e .1) (sym (eqb→eq (e .1) (f .number) (true-T (eqb (e .1) (f .number)) h)))) ∙ k))
     go false h true k r ih = absurd (true≢false (sym (eq-eqb (e .1) (f .number) (sym (eqb→eq (f .number) (e .1) (true-T (eqb (f .number) (e .1)) k)))) ∙ h))
     go false h false k r ih =
         ap (λ (x : Bool). (not (eqb (e .1) mine) && not (isEmpty (keep (λ g. eqb (e .1) (g .number)) fs))) || x) ih
-        ∙ or-swap (not (eqb (e .1) mine) && not (isEmpty (keep (λ g. eqb (e .1) (g .number)) fs))) (not (eqb (f .number) mine) && contains (f .number) (map (λ c. c .1) cs)) (foreign mine cs (Holding place fs))
+        ∙ or-swap (not (eqb (e .1) mine) && not (isEmpty (keep (λ g. eqb (e .1) (g .number)) fs)))
+        (not (eqb (f .number) mine) && contains (f .number) (map (λ c. c .1) cs)) (foreign mine cs (Holding place fs))
 
 foreign-place : (mine p q : ℕ) (cs : List (ℕ × ℕ)) (fs : List Field) → foreign mine cs (Holding p fs) ≡ foreign mine cs (Holding q fs)
 unfolding foreign allOf Holding
@@ -141,7 +146,11 @@ module _ {model : Bytes} {mine end start : ℕ} {c : Cursor} (q : Looking model 
   module _ (h : c .at < c .end) {r : FieldAnswer} (read : fieldSays r ≡ withCursor (c .end) (field model (c .end) (c .at))) where
     pub look-stop : {x : Refusal} → r ≡ field-answer.Refused x → false ≡ foreignFrom model mine end start
     unfolding foreignFrom
-    look-stop {x} e = sym (ap (λ (l : List Field). foreign mine carriers (Holding 0 l)) (fields-stop model end (c .at) x (rw (q .ends) at h) (rw (q .ends) at (answer-refused model c read e))) ∙ foreign-nothing mine 0 carriers) ∙ q .rest
+    look-stop {x} e =
+        sym (ap (λ (l : List Field). foreign mine carriers (Holding 0 l))
+        (fields-stop model end (c .at) x (rw (q .ends) at h) (rw (q .ends) at (answer-refused model c read e)))
+        ∙ foreign-nothing mine 0 carriers)
+        ∙ q .rest
 
     module _ {f : Field} {next : Cursor} (e : r ≡ field-answer.Read f next) where
       went : (field model end (c .at) ≡ pass f) × (next ≡ record { at = f .next; end = end })
@@ -150,7 +159,8 @@ module _ {model : Bytes} {mine end start : ℕ} {c : Cursor} (q : Looking model 
       at-next : next .at ≡ f .next
       at-next = ap (λ (x : Cursor). x .at) (went .1)
 
-      parted : {b : Bool} → b ≡ (not (eqb (f .number) mine) && contains (f .number) carrierNumbers) → (b || foreignFrom model mine end (next .at)) ≡ foreignFrom model mine end start
+      parted : {b : Bool} → b ≡ (not (eqb (f .number) mine) && contains (f .number) carrierNumbers)
+          → (b || foreignFrom model mine end (next .at)) ≡ foreignFrom model mine end start
       unfolding foreignFrom carrierNumbers
       parted k =
           ap (λ (x : Bool). x || foreign mine carriers (Holding 0 (fields model end (next .at)))) k
@@ -190,7 +200,10 @@ unfolding lookup contains
 nonzero n [] h e = subst Absent e tt
 nonzero n (c ∷ l) h e = go (eqb n (c .0)) (eqb 0 (c .1)) refl h e (nonzero n l)
   where
-    go : (b d : Bool) → eqb 0 (c .1) ≡ d → (d || contains 0 (map (λ x. x .1) l)) ≡ false → _≡_ {A = Option ℕ} (elim b [ true ↦ some (c .1) | false ↦ lookup n l ]) (some 0) → (contains 0 (map (λ x. x .1) l) ≡ false → lookup n l ≡ some 0 → ⊥) → ⊥
+    go : (b d : Bool) → eqb 0 (c .1) ≡ d → (d || contains 0 (map (λ x. x .1) l)) ≡ false
+        → _≡_ {A = Option ℕ} (elim b [ true ↦ some (c .1) | false ↦ lookup n l ]) (some 0)
+        → (contains 0 (map (λ x. x .1) l) ≡ false → lookup n l ≡ some 0 → ⊥)
+        → ⊥
     go b true i k x ih = true≢false k
     go false false i k x ih = ih k x
     go true false i k x ih = true≢false (sym (eq-eqb 0 (c .1) (sym (some-same (c .1) 0 x))) ∙ i)
@@ -199,7 +212,8 @@ zero-free : contains 0 (map (λ c. c .1) carriers) ≡ false
 unfolding contains carriers
 zero-free = refl
 
-module _ (model : Bytes) (a : Field) {kind : ℕ} (k : kind ≡ numberOf Attribute·type (message model a)) {mine : ℕ} (c : mine ≡ elim (lookup kind carriers) [ none ↦ 0 | some n ↦ n ]) where
+module _ (model : Bytes) (a : Field) {kind : ℕ} (k : kind ≡ numberOf Attribute·type (message model a)) {mine : ℕ}
+    (c : mine ≡ elim (lookup kind carriers) [ none ↦ 0 | some n ↦ n ]) where
   Valued : Option ℕ → Bool
   Valued o = elim o [ none ↦ true | some n ↦ foreign n carriers (message model a) || (needed kind && isEmpty (allOf n (message model a))) ]
 
@@ -223,7 +237,8 @@ module _ (model : Bytes) (a : Field) {kind : ℕ} (k : kind ≡ numberOf Attribu
         go none e = absurd (h e)
         go (some n) e = ap some (sym e)
 
-    valued : {b n i : Bool} → b ≡ foreign mine carriers (message model a) → n ≡ needed kind → i ≡ isEmpty (allOf mine (message model a)) → (b || (n && i)) ≡ badValue (numberOf Attribute·type (message model a)) (message model a)
+    valued : {b n i : Bool} → b ≡ foreign mine carriers (message model a) → n ≡ needed kind → i ≡ isEmpty (allOf mine (message model a))
+        → (b || (n && i)) ≡ badValue (numberOf Attribute·type (message model a)) (message model a)
     unfolding Valued
     valued e f g = rw (e, f, g) (value-by carried)
 
@@ -233,7 +248,10 @@ module _ (model : Bytes) (a : Field) {kind : ℕ} (k : kind ≡ numberOf Attribu
 
       module _ (t : b ≡ false) {n : Bool} (f : n ≡ needed kind) where
         pub value-free : n ≡ false → false ≡ badValue (numberOf Attribute·type (message model a)) (message model a)
-        value-free u = sym (ap (λ (x : Bool). x || (n && isEmpty (allOf mine (message model a)))) t ∙ ap (λ (x : Bool). x && isEmpty (allOf mine (message model a))) u) ∙ valued e f refl
+        value-free u =
+            sym (ap (λ (x : Bool). x || (n && isEmpty (allOf mine (message model a)))) t
+            ∙ ap (λ (x : Bool). x && isEmpty (allOf mine (message model a))) u)
+            ∙ valued e f refl
 
         module _ (u : n ≡ true) where
           held : {i : Bool} → isEmpty (allOf mine (message model a)) ≡ i → i ≡ badValue (numberOf Attribute·type (message model a)) (message model a)

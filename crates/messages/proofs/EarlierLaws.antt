@@ -60,11 +60,15 @@ pub record Rereading (model : Bytes) (number end : ℕ) (named : Field → Bytes
   pub rest : member text (map named (before place (allFrom model number end (c .at)))) ≡ o
 
 -- the names in a message's fields
-pub reread-all : (model : Bytes) (number name place : ℕ) (text : Bytes) (m : Field) {c : Cursor} → c ≡ contentsOf m → member text (map (λ f. bytesOf model name (message model f)) (before place (allFrom model number (c .end) (c .at)))) ≡ member text (namesIn model name (before place (allOf number (message model m))))
+pub reread-all : (model : Bytes) (number name place : ℕ) (text : Bytes) (m : Field) {c : Cursor}
+    → c ≡ contentsOf m
+    → member text (map (λ f. bytesOf model name (message model f)) (before place (allFrom model number (c .end) (c .at))))
+    ≡ member text (namesIn model name (before place (allOf number (message model m))))
 unfolding allFrom allOf message namesIn contentsOf
 reread-all model number name place text m e = rw e refl
 
-module _ {model : Bytes} {number end : ℕ} {named : Field → Bytes} {place : ℕ} {text : Bytes} {o : Bool} {c : Cursor} (q : Rereading model number end named place text o c) {r : Sought} (read : soughtSays r ≡ soughtIn model number (c .end) (c .at)) where
+module _ {model : Bytes} {number end : ℕ} {named : Field → Bytes} {place : ℕ} {text : Bytes} {o : Bool} {c : Cursor}
+    (q : Rereading model number end named place text o c) {r : Sought} (read : soughtSays r ≡ soughtIn model number (c .end) (c .at)) where
   pub reread-done : r ≡ sought.Missing → false ≡ o
   unfolding soughtSays before member
   reread-done e = ap (λ (l : List Field). member text (map named (before place l))) (sym (all-none model number end (c .at) (says soughtSays (rw (q .ends) at read) e))) ∙ q .rest

@@ -42,8 +42,8 @@ version-rest n h = simp (le-leb 4 n h)
 
 -- ---- one reading of the model's own fields
 
-pub outlined : (model : Bytes) {m : Field} → m ≡ whole model → {o : Outline} →
-    Outlines model m Model·ir-version Model·graph Model·opset-import Model·functions 0 0 o → Outlined model o
+pub outlined : (model : Bytes) {m : Field} → m ≡ whole model → {o : Outline}
+    → Outlines model m Model·ir-version Model·graph Model·opset-import Model·functions 0 0 o → Outlined model o
 outlined model em {o} k = record {
   version = subst (λ (m : Field). Starts model m Model·ir-version (o .first)) em (k .0);
   graph = subst (λ (m : Field). Starts model m Model·graph (o .second)) em (k .1);
@@ -112,7 +112,9 @@ module _ (model list : Bytes) {m : Field} (em : m ≡ whole model) {n : ℕ} (en
     abbrev Last : Judged (List Bytes)
     Last = Each >>= λ imports. refuse 15 at: placeOf Model·functions (message model m) when: present (firstOf Model·functions (message model m)) >> pass imports
 
-    graphed : header model list (message model m) ≡ (refuse 11 at: m .place when: not (present (firstOf Model·graph (message model m))) >> (refuse 12 at: m .place when: isEmpty (allOf Model·opset-import (message model m)) >> Last))
+    graphed : header model list (message model m)
+        ≡ (refuse 11 at: m .place when: not (present (firstOf Model·graph (message model m)))
+        >> (refuse 12 at: m .place when: isEmpty (allOf Model·opset-import (message model m)) >> Last))
     unfolding header message
     graphed = when-kept 10 _ _ (version k)
 
@@ -144,14 +146,22 @@ module _ (model list : Bytes) {m : Field} (em : m ≡ whole model) {n : ℕ} (en
         unfolding silent _>>=_
         header-imports-refused u =
             ruled ∙ ruled-refused ruled u
-            ∙ answers (last j ∙ ap (λ (o : Judged (List Bytes)). o >>= λ imports. refuse 15 at: placeOf Model·functions (message model m) when: present (firstOf Model·functions (message model m)) >> pass imports) (silent-fails Each (ruled-refused judged u)))
+            ∙ answers
+            (last j
+            ∙ ap (λ (o : Judged (List Bytes)). o
+            >>= λ imports. refuse 15 at: placeOf Model·functions (message model m) when: present (firstOf Model·functions (message model m))
+            >> pass imports) (silent-fails Each (ruled-refused judged u)))
 
         module _ (u : r ≡ ruling.Kept) {h : Bool} (eh : h ≡ present (firstOf Model·functions (message model m))) where
-          whole-header : header model list (message model m) ≡ (refuse 15 at: placeOf Model·functions (message model m) when: present (firstOf Model·functions (message model m)) >> pass (silent-passes Each (ruled-kept judged u) .0))
+          whole-header : header model list (message model m)
+              ≡ (refuse 15 at: placeOf Model·functions (message model m) when: present (firstOf Model·functions (message model m))
+              >> pass (silent-passes Each (ruled-kept judged u) .0))
           unfolding _>>=_
           whole-header =
               last j
-              ∙ ap (λ (o : Judged (List Bytes)). o >>= λ imports. refuse 15 at: placeOf Model·functions (message model m) when: present (firstOf Model·functions (message model m)) >> pass imports) (silent-passes Each (ruled-kept judged u) .1)
+              ∙ ap (λ (o : Judged (List Bytes)). o
+              >>= λ imports. refuse 15 at: placeOf Model·functions (message model m) when: present (firstOf Model·functions (message model m))
+              >> pass imports) (silent-passes Each (ruled-kept judged u) .1)
 
           pub header-functions : h ≡ true → {p : ℕ} → p ≡ placeOf Model·functions (message model m) → refused 15 p ≡ Answer
           unfolding silent _>>=_
@@ -162,7 +172,8 @@ module _ (model list : Bytes) {m : Field} (em : m ≡ whole model) {n : ℕ} (en
           header-kept v = answers (whole-header ∙ when-kept 15 (placeOf Model·functions (message model m)) _ (sym eh ∙ v))
 
 -- the domains that a header passes on are those that the model imports
-pub header-imports : (model list : Bytes) (imports : List Bytes) → header model list (message model (whole model)) ≡ pass imports → (x : Bytes) → member x imports ≡ member x (importsIn model)
+pub header-imports : (model list : Bytes) (imports : List Bytes) → header model list (message model (whole model)) ≡ pass imports → (x : Bytes)
+    → member x imports ≡ member x (importsIn model)
 unfolding header importsIn
 header-imports model list imports e x =
     let after12 = passed-seq _ _ imports (passed-seq _ _ imports (passed-seq _ _ imports e .1) .1) .1 in

@@ -81,17 +81,21 @@ module _ (model : Bytes) (c : Cursor) (ends : c .end ≡ length model) {a : Soug
 
 -- ---- reading them again: whether x is imported before a place
 
-pub imports-again : (model : Bytes) (place : ℕ) (x : Bytes) → Rereading model Model·opset-import (length model) (importOf model) place x (member x (importsBefore model place)) (contentsOf (whole model))
+pub imports-again : (model : Bytes) (place : ℕ) (x : Bytes)
+    → Rereading model Model·opset-import (length model) (importOf model) place x (member x (importsBefore model place)) (contentsOf (whole model))
 unfolding importsBefore whole contentsOf
 imports-again model place x = record { ends = refl; rest = ap (λ (l : List Field). member x (map (importOf model) (before place l))) (sym (from-start model)) }
 
-pub same-import : (model x : Bytes) (f : Field) {y : Bytes} → y ≡ bytesOf model OperatorSetId·domain (message model f) → {b : Bool} → b ≡ same x (domain y) → b ≡ same x (importOf model f)
+pub same-import : (model x : Bytes) (f : Field) {y : Bytes} → y ≡ bytesOf model OperatorSetId·domain (message model f) → {b : Bool}
+    → b ≡ same x (domain y)
+    → b ≡ same x (importOf model f)
 unfolding importOf
 same-import model x f e k = k ∙ ap (λ (z : Bytes). same x (domain z)) e
 
 -- ---- one import: y is the domain that it names, s whether that is imported
 
-module _ (model list : Bytes) (imports : List Bytes) (f : Field) {y : Bytes} (ey : y ≡ bytesOf model OperatorSetId·domain (message model f)) {s : Bool} (es : s ≡ member (domain y) imports) where
+module _ (model list : Bytes) (imports : List Bytes) (f : Field) {y : Bytes} (ey : y ≡ bytesOf model OperatorSetId·domain (message model f))
+    {s : Bool} (es : s ≡ member (domain y) imports) where
   twice : {b : Bool} → s ≡ b → member (importOf model f) imports ≡ b
   unfolding importOf
   twice k = ap (λ (z : Bytes). member (domain z) imports) (sym ey) ∙ sym es ∙ k
@@ -103,9 +107,14 @@ module _ (model list : Bytes) (imports : List Bytes) (f : Field) {y : Bytes} (ey
   module _ (k : s ≡ false) {n : ℕ} (en : n ≡ numberOf OperatorSetId·version (message model f)) {t : Bool} (et : t ≡ allows list (domain y) n) where
     listed : {b : Bool} → t ≡ b → not (allows list (importOf model f) (numberOf OperatorSetId·version (message model f))) ≡ not b
     unfolding importOf
-    listed l = ap (λ (z : Bytes). not (allows list (domain z) (numberOf OperatorSetId·version (message model f)))) (sym ey) ∙ ap (λ (v : ℕ). not (allows list (domain y) v)) (sym en) ∙ ap not (sym et ∙ l)
+    listed l =
+        ap (λ (z : Bytes). not (allows list (domain z) (numberOf OperatorSetId·version (message model f)))) (sym ey)
+        ∙ ap (λ (v : ℕ). not (allows list (domain y) v)) (sym en)
+        ∙ ap not (sym et ∙ l)
 
-    once : opsetImport model list imports f ≡ (refuse 14 at: f .place when: not (allows list (importOf model f) (numberOf OperatorSetId·version (message model f))) >> pass (importOf model f ∷ imports))
+    once : opsetImport model list imports f
+        ≡ (refuse 14 at: f .place when: not (allows list (importOf model f) (numberOf OperatorSetId·version (message model f)))
+        >> pass (importOf model f ∷ imports))
     unfolding opsetImport importOf message
     once = when-kept 13 _ _ (twice k)
 
@@ -141,10 +150,15 @@ module _ (model list : Bytes) where
   opset-agrees : (a b : List Bytes) (f : Field) → ((x : Bytes) → member x a ≡ member x b) → silent (opsetImport model list a f) ≡ silent (opsetImport model list b f)
   unfolding opsetImport importOf silent _>>_ _>>=_ refuse_at:_when:_
   opset-agrees a b f h =
-      ap (λ (s : Bool). silent (refuse 13 at: message model f .place when: s >> (refuse 14 at: message model f .place when: not (allows list (importOf model f) (numberOf OperatorSetId·version (message model f))) >> pass (importOf model f ∷ a)))) (h (importOf model f))
+      ap (λ (s : Bool). silent (refuse 13 at: message model f .place when: s
+      >> (refuse 14 at: message model f .place
+      when: not (allows list (importOf model f) (numberOf OperatorSetId·version (message model f))) >> pass (importOf model f ∷ a))))
+      (h (importOf model f))
       ∙ go (member (importOf model f) b) (not (allows list (importOf model f) (numberOf OperatorSetId·version (message model f))))
     where
-      go : (s t : Bool) → silent (refuse 13 at: message model f .place when: s >> (refuse 14 at: message model f .place when: t >> pass (importOf model f ∷ a))) ≡ silent (refuse 13 at: message model f .place when: s >> (refuse 14 at: message model f .place when: t >> pass (importOf model f ∷ b)))
+      go : (s t : Bool)
+          → silent (refuse 13 at: message model f .place when: s >> (refuse 14 at: message model f .place when: t >> pass (importOf model f ∷ a)))
+          ≡ silent (refuse 13 at: message model f .place when: s >> (refuse 14 at: message model f .place when: t >> pass (importOf model f ∷ b)))
       go true t = refl
       go false true = refl
       go false false = refl
@@ -221,7 +235,10 @@ pub record Keeping (model list : Bytes) (seed : ℕ) (first lists : List ℕ) (i
   pub imported : Imported model seed lists i (map (importOf model) (importing .pre))
   pub held : Held model seed 0 first lists
 
-pub keeping-start : (model list : Bytes) (seed : ℕ) {pos : ℕ} → Starts model (whole model) Model·opset-import pos → {lists : List ℕ} → Indexed model seed (tableOf lists) (known lists) → Keeping model list seed lists lists (record { listing = record { base = 0; top = 0; whole = true }; default = false }) (record { at = pos; end = length model })
+pub keeping-start : (model list : Bytes) (seed : ℕ) {pos : ℕ} → Starts model (whole model) Model·opset-import pos → {lists : List ℕ}
+    → Indexed model seed (tableOf lists) (known lists)
+    → Keeping model list seed lists lists (record { listing = record { base = 0; top = 0; whole = true }; default = false })
+    (record { at = pos; end = length model })
 unfolding importing-start member
 keeping-start model list seed begins ix = record {
   importing = importing-start model list begins;
@@ -229,11 +246,14 @@ keeping-start model list seed begins ix = record {
   held = held-all ix (omega arith);
 }
 
-module _ {model list : Bytes} {seed : ℕ} {first lists : List ℕ} {i : Imports} {c : Cursor} (q : Keeping model list seed first lists i c) {a : Sought} (read : soughtSays a ≡ soughtIn model Model·opset-import (c .end) (c .at)) where
+module _ {model list : Bytes} {seed : ℕ} {first lists : List ℕ} {i : Imports} {c : Cursor} (q : Keeping model list seed first lists i c)
+    {a : Sought} (read : soughtSays a ≡ soughtIn model Model·opset-import (c .end) (c .at)) where
   pub keeping-end : a ≡ sought.Missing → Imported model seed lists i (importsIn model)
   unfolding importsIn
   keeping-end e =
-      let all : q .importing .pre ≡ All model = sym (q .importing .split ∙ ap (λ (l : List Field). q .importing .pre ++ l) (none-left model c (q .importing .ends) read e) ∙ append-nil (q .importing .pre)) in
+      let all : q .importing .pre ≡ All model = sym (q .importing .split
+      ∙ ap (λ (l : List Field). q .importing .pre ++ l) (none-left model c (q .importing .ends) read e)
+      ∙ append-nil (q .importing .pre)) in
       subst (λ (l : List Field). Imported model seed lists i (map (importOf model) l)) all (q .imported)
 
   module _ {f : Field} {next : Cursor} (e : a ≡ sought.Found f next) where
@@ -241,7 +261,9 @@ module _ {model list : Bytes} {seed : ℕ} {first lists : List ℕ} {i : Imports
     unfolding importsBefore
     keeping-before = subst (λ (l : List Field). Imported model seed lists i (map (importOf model) l)) (sym (seen (q .importing) read e)) (q .imported)
 
-    pub keeping-goes : (r : Ruling) → rulingSays r ≡ silent (opsetImport model list (importsBefore model (f .place)) f) → r ≡ ruling.Kept → {later : List ℕ} {more : Imports} → ImportAdded model seed i f lists later more → Keeping model list seed first later more next
+    pub keeping-goes : (r : Ruling) → rulingSays r ≡ silent (opsetImport model list (importsBefore model (f .place)) f) → r ≡ ruling.Kept
+        → {later : List ℕ} {more : Imports} → ImportAdded model seed i f lists later more
+        → Keeping model list seed first later more next
     unfolding importing-goes
     keeping-goes r ruled k added = record {
       importing = importing-goes (q .importing) read e r ruled k;

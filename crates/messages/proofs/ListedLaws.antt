@@ -30,7 +30,9 @@ absent-empty e = ap isEmpty (sym e)
 pub text-empty : {x y z : Bytes} → x ≡ y → y ≡ z → length x ≡ 0 → isEmpty z ≡ true
 text-empty {x} e f h = ap isEmpty (sym (e ∙ f)) ∙ empty-none x h
 
-pub added-as : {model : Bytes} {seed : ℕ} {l : Listing} {before after : List ℕ} {r : Listing} {x y : Bytes} → x ≡ y → Added model seed l x before after r → Added model seed l y before after r
+pub added-as : {model : Bytes} {seed : ℕ} {l : Listing} {before after : List ℕ} {r : Listing} {x y : Bytes}
+    → x ≡ y → Added model seed l x before after r
+    → Added model seed l y before after r
 added-as {model} {seed} {l} {before} {after} {r} e a = subst (λ (z : Bytes). Added model seed l z before after r) e a
 
 -- ---- domains
@@ -59,10 +61,14 @@ module _ {model : Bytes} {seed : ℕ} {lists : List ℕ} {i : Imports} {domains 
   pub imported-default : length y ≡ 0 → i .default ≡ member (domain z) domains
   imported-default h = d .default ∙ ap (λ (x : Bytes). member x domains) (sym (no-bytes y h) ∙ e)
 
-  pub imported-named : (length y ≡ 0 → ⊥) → i .listing .whole ≡ true → {b : Bool} → b ≡ since (i .listing .base) (seek y (namesIn model (tableOf lists) (i .listing .top))) → b ≡ member (domain z) domains
+  pub imported-named : (length y ≡ 0 → ⊥) → i .listing .whole ≡ true → {b : Bool}
+      → b ≡ since (i .listing .base) (seek y (namesIn model (tableOf lists) (i .listing .top)))
+      → b ≡ member (domain z) domains
   imported-named h w found = found ∙ d .listed .finds w y (empty-some y h) ∙ ap (λ (x : Bytes). member x domains) e
 
-pub imported-held : {model : Bytes} {seed : ℕ} {i : Imports} {domains : List Bytes} {before after : List ℕ} → Held model seed (i .listing .top) before after → Imported model seed before i domains → Imported model seed after i domains
+pub imported-held : {model : Bytes} {seed : ℕ} {i : Imports} {domains : List Bytes} {before after : List ℕ}
+    → Held model seed (i .listing .top) before after → Imported model seed before i domains
+    → Imported model seed after i domains
 imported-held h d = record { listed = listed-held h (d .listed); default = d .default }
 
 -- ---- one import more
@@ -71,7 +77,9 @@ import-named-by : (model : Bytes) (f : Field) {y z : Bytes} → z ≡ bytesOf mo
 unfolding importOf
 import-named-by model f ez ey = ey ∙ ap domain ez
 
-module _ {model : Bytes} {seed : ℕ} (i : Imports) {before : List ℕ} (ix : Indexed model seed (tableOf before) (known before)) (h : i .listing .top ≤ known before) (f : Field) {y z : Bytes} (ez : z ≡ bytesOf model OperatorSetId·domain (message model f)) (ey : y ≡ domain z) where
+module _ {model : Bytes} {seed : ℕ} (i : Imports) {before : List ℕ} (ix : Indexed model seed (tableOf before) (known before))
+    (h : i .listing .top ≤ known before) (f : Field) {y z : Bytes} (ez : z ≡ bytesOf model OperatorSetId·domain (message model f))
+    (ey : y ≡ domain z) where
   pub import-default : length y ≡ 0 → ImportAdded model seed i f before before (record { listing = i .listing; default = true })
   unfolding same
   import-default k = record {
@@ -85,7 +93,9 @@ module _ {model : Bytes} {seed : ℕ} (i : Imports) {before : List ℕ} (ix : In
       none : isEmpty (importOf model f) ≡ true
       none = ap isEmpty (sym (import-named-by model f ez ey)) ∙ empty-none y k
 
-  pub import-named : (length y ≡ 0 → ⊥) → {after : List ℕ} {l : Listing} → Added model seed (i .listing) (bytesOf model OperatorSetId·domain (message model f)) before after l → ImportAdded model seed i f before after (record { listing = l; default = i .default })
+  pub import-named : (length y ≡ 0 → ⊥) → {after : List ℕ} {l : Listing}
+      → Added model seed (i .listing) (bytesOf model OperatorSetId·domain (message model f)) before after l
+      → ImportAdded model seed i f before after (record { listing = l; default = i .default })
   import-named k a = record {
     held = a .held;
     imported = λ domains later d more. record {

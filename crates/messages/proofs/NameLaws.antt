@@ -40,7 +40,9 @@ module _ (model : Bytes) (empty number : ℕ) (m : Field) where
   Rest : Bytes → ℕ → Judged Name
   Rest x p = refuse empty at: p when: isEmpty x >> (refuse 21 at: p when: not (identifier x) >> pass (record { bytes = x; place = p }))
 
-  rest : {o : Option Field} → o ≡ firstOf number (message model m) → naming model empty number (message model m) ≡ Rest (elim o [ none ↦ [] | some f ↦ text model f ]) (elim o [ none ↦ m .place | some f ↦ f .place ])
+  rest : {o : Option Field} → o ≡ firstOf number (message model m)
+      → naming model empty number (message model m)
+      ≡ Rest (elim o [ none ↦ [] | some f ↦ text model f ]) (elim o [ none ↦ m .place | some f ↦ f .place ])
   unfolding naming nameOf bytesOf placeOf message Rest
   rest k = ap (λ (o : Option Field). Rest (elim o [ none ↦ [] | some f ↦ text model f ]) (elim o [ none ↦ m .place | some f ↦ f .place ])) (sym k)
 
@@ -115,7 +117,9 @@ module _ (model : Bytes) (empty number : ℕ) (m : Field) (n : Naming) (e : nami
   unfolding namingSays nameField nameSays _>>=_
   naming-says {a} k = go a (naming model empty number (message model m)) refl (says namingSays e k)
     where
-      go : (a : Naming) (o : Judged Name) → o ≡ naming model empty number (message model m) → namingSays a ≡ (o >>= λ _. pass (firstOf number (message model m))) → nameSays model a ≡ naming model empty number (message model m)
+      go : (a : Naming) (o : Judged Name) → o ≡ naming model empty number (message model m)
+          → namingSays a ≡ (o >>= λ _. pass (firstOf number (message model m)))
+          → nameSays model a ≡ naming model empty number (message model m)
       go (naming-answer.Named f) (pass x) u v =
           let found = name-field model empty number m u in
           ap (λ (g : Field). pass (nameIn model g)) (some-same f (found .0) (pass-same _ _ v ∙ sym (found .1))) ∙ ap pass (found .2) ∙ u

@@ -34,7 +34,9 @@ module _ (model : Bytes) (earlier : List Bytes) (m : Field) where
   Ruled : Bytes → ℕ → Judged (List Bytes)
   Ruled x p = elim (isEmpty x) [ true ↦ pass earlier | false ↦ (refuse 21 at: p when: not (identifier x) >> (refuse 29 at: p when: member x earlier >> pass (x ∷ earlier))) ]
 
-  ruled : {o : Option Field} → o ≡ firstOf Node·name (message model m) → silent (Ruled (elim o [ none ↦ [] | some f ↦ text model f ]) (elim o [ none ↦ m .place | some f ↦ f .place ])) ≡ silent (nodeName model earlier (message model m))
+  ruled : {o : Option Field} → o ≡ firstOf Node·name (message model m)
+      → silent (Ruled (elim o [ none ↦ [] | some f ↦ text model f ]) (elim o [ none ↦ m .place | some f ↦ f .place ]))
+      ≡ silent (nodeName model earlier (message model m))
   unfolding nodeName bytesOf placeOf message Ruled
   ruled k = ap (λ (o : Option Field). silent (Ruled (elim o [ none ↦ [] | some f ↦ text model f ]) (elim o [ none ↦ m .place | some f ↦ f .place ]))) k
 
@@ -46,9 +48,20 @@ module _ (model : Bytes) (earlier : List Bytes) (m : Field) where
     by-name : silent (Ruled x (f .place)) ≡ silent (nodeName model earlier (message model m))
     by-name = ap (λ (y : Bytes). silent (Ruled y (f .place))) t ∙ ruled k
 
-    by-length : {b : Bool} → isEmpty x ≡ b → silent {A = List Bytes} (elim b [ true ↦ pass earlier | false ↦ (refuse 21 at: f .place when: not (identifier x) >> (refuse 29 at: f .place when: member x earlier >> pass (x ∷ earlier))) ]) ≡ silent (nodeName model earlier (message model m))
+    by-length : {b : Bool} → isEmpty x ≡ b
+        → silent {A = List Bytes} (elim b [
+          | true ↦ pass earlier
+          | false ↦ (refuse 21 at: f .place when: not (identifier x)
+              >> (refuse 29 at: f .place when: member x earlier >> pass (x ∷ earlier)))
+        ]) ≡ silent (nodeName model earlier (message model m))
     unfolding Ruled
-    by-length e = ap (λ (b : Bool). silent {A = List Bytes} (elim b [ true ↦ pass earlier | false ↦ (refuse 21 at: f .place when: not (identifier x) >> (refuse 29 at: f .place when: member x earlier >> pass (x ∷ earlier))) ])) (sym e) ∙ by-name
+    by-length e =
+        ap (λ (b : Bool). silent {A = List Bytes} (elim b [
+          | true ↦ pass earlier
+          | false ↦ (refuse 21 at: f .place when: not (identifier x)
+              >> (refuse 29 at: f .place when: member x earlier >> pass (x ∷ earlier)))
+        ])) (sym e)
+        ∙ by-name
 
     pub node-unnamed : length x ≡ 0 → pass tt ≡ silent (nodeName model earlier (message model m))
     unfolding silent _>>=_
@@ -88,7 +101,8 @@ module _ (model : Bytes) (graph f : Field) where
     unfolding nodeHead namingSays nameSays silent _>>=_ _>>_
     head-untyped k = ap (λ (m : Naming). silent (namingSays m)) k ∙ ap (λ (o : Judged Name). silent o >> Imported) (naming-says _ _ _ _ _ e k)
 
-    module _ {g : Field} (k : n ≡ naming-answer.Named g) {x : Bytes} (t : x ≡ bytesOf model Node·domain (message model f)) {b : Bool} (i : b ≡ member (domain x) (importsIn model)) where
+    module _ {g : Field} (k : n ≡ naming-answer.Named g) {x : Bytes} (t : x ≡ bytesOf model Node·domain (message model f)) {b : Bool}
+        (i : b ≡ member (domain x) (importsIn model)) where
       typed : (refuse 28 at: placeOf Node·domain (message model f) when: not b >> Naming?) ≡ nodeHead model graph f
       unfolding nodeHead namingSays nameSays silent _>>=_ _>>_
       typed =

@@ -35,7 +35,9 @@ module _ (model : Bytes) (f : Field) where
       ∙ sym (when-broken 38 (placeOf Dimension·dim-value (message model f)) _ (ap negative (sym e) ∙ le-leb (2 ^ 63) n h))
 
   module _ {n : ℕ} (e : n ≡ numberOf Dimension·dim-value (message model f)) (h : n < 2 ^ 63) where
-    dim-rest : dim model tt f ≡ (refuse 21 at: placeOf Dimension·dim-param (message model f) when: (present (firstOf Dimension·dim-param (message model f)) && not (identifier (bytesOf model Dimension·dim-param (message model f)))))
+    dim-rest : dim model tt f
+        ≡ (refuse 21 at: placeOf Dimension·dim-param (message model f)
+        when: (present (firstOf Dimension·dim-param (message model f)) && not (identifier (bytesOf model Dimension·dim-param (message model f)))))
     unfolding dim negative
     dim-rest = when-kept 38 _ _ (ap negative (sym e) ∙ lt-leb (2 ^ 63) n h)
 
@@ -60,9 +62,14 @@ module _ (model : Bytes) (f : Field) where
   module _ {b : Bool} {n : ℕ} (e : n ≡ numberOf TensorType·elem-type (message model f)) (i : b ≡ isElement n) where
     pub elem-bad : {p : ℕ} → p ≡ placeOf TensorType·elem-type (message model f) → b ≡ false → refused 25 p ≡ tensorType model (message model f)
     unfolding tensorType
-    elem-bad k t = ap (λ (q : ℕ). refused 25 q) k ∙ sym (when-broken 25 (placeOf TensorType·elem-type (message model f)) _ (ap (λ (m : ℕ). not (isElement m)) (sym e) ∙ ap not (sym i) ∙ ap not t))
+    elem-bad k t =
+        ap (λ (q : ℕ). refused 25 q) k
+        ∙ sym (when-broken 25 (placeOf TensorType·elem-type (message model f)) _
+        (ap (λ (m : ℕ). not (isElement m)) (sym e) ∙ ap not (sym i) ∙ ap not t))
 
-    shaped : b ≡ true → {o : Option Field} → o ≡ firstOf TensorType·shape (message model f) → tensorType model (message model f) ≡ elim o [ none ↦ refused 37 (f .place) | some shape ↦ each (dim model) tt (allOf Shape·dim (message model shape)) ]
+    shaped : b ≡ true → {o : Option Field} → o ≡ firstOf TensorType·shape (message model f)
+        → tensorType model (message model f)
+        ≡ elim o [ none ↦ refused 37 (f .place) | some shape ↦ each (dim model) tt (allOf Shape·dim (message model shape)) ]
     unfolding tensorType message
     shaped t {o} k =
         when-kept 25 _ _ (ap (λ (m : ℕ). not (isElement m)) (sym e) ∙ ap not (sym i) ∙ ap not t)
@@ -71,20 +78,33 @@ module _ (model : Bytes) (f : Field) where
     pub shape-none : b ≡ true → none ≡ firstOf TensorType·shape (message model f) → refused 37 (f .place) ≡ tensorType model (message model f)
     shape-none t k = sym (shaped t k)
 
-    pub shape-some : b ≡ true → {g : Field} → some g ≡ firstOf TensorType·shape (message model f) → each (dim model) tt (allOf Shape·dim (message model g)) ≡ tensorType model (message model f)
+    pub shape-some : b ≡ true → {g : Field} → some g ≡ firstOf TensorType·shape (message model f)
+        → each (dim model) tt (allOf Shape·dim (message model g)) ≡ tensorType model (message model f)
     shape-some t k = sym (shaped t k)
 
   -- ---- the type that is declared
 
-  declared : {o : Option Field} → o ≡ firstOf ValueInfo·type (message model f) → declaredType model (message model f) ≡ elim o [ none ↦ refused 24 (f .place) | some type ↦ elim (firstOf TypeProto·tensor (message model type)) [ none ↦ refused 24 (type .place) | some tensor ↦ tensorType model (message model tensor) ] ]
+  declared : {o : Option Field} → o ≡ firstOf ValueInfo·type (message model f)
+      → declaredType model (message model f)
+      ≡ elim o [
+        | none ↦ refused 24 (f .place)
+        | some type ↦ elim (firstOf TypeProto·tensor (message model type))
+            [ none ↦ refused 24 (type .place) | some tensor ↦ tensorType model (message model tensor) ]
+      ]
   unfolding declaredType message
-  declared k = ap (λ (x : Option Field). elim x [ none ↦ refused 24 (f .place) | some type ↦ elim (firstOf TypeProto·tensor (message model type)) [ none ↦ refused 24 (type .place) | some tensor ↦ tensorType model (message model tensor) ] ]) (sym k)
+  declared k =
+      ap (λ (x : Option Field). elim x [
+        | none ↦ refused 24 (f .place)
+        | some type ↦ elim (firstOf TypeProto·tensor (message model type))
+            [ none ↦ refused 24 (type .place) | some tensor ↦ tensorType model (message model tensor) ]
+      ]) (sym k)
 
   pub type-none : none ≡ firstOf ValueInfo·type (message model f) → refused 24 (f .place) ≡ declaredType model (message model f)
   type-none k = sym (declared k)
 
   module _ {g : Field} (k : some g ≡ firstOf ValueInfo·type (message model f)) where
-    within-type : {o : Option Field} → o ≡ firstOf TypeProto·tensor (message model g) → declaredType model (message model f) ≡ elim o [ none ↦ refused 24 (g .place) | some tensor ↦ tensorType model (message model tensor) ]
+    within-type : {o : Option Field} → o ≡ firstOf TypeProto·tensor (message model g)
+        → declaredType model (message model f) ≡ elim o [ none ↦ refused 24 (g .place) | some tensor ↦ tensorType model (message model tensor) ]
     within-type l = declared k ∙ ap (λ (x : Option Field). elim x [ none ↦ refused 24 (g .place) | some tensor ↦ tensorType model (message model tensor) ]) (sym l)
 
     pub tensor-none : none ≡ firstOf TypeProto·tensor (message model g) → refused 24 (g .place) ≡ declaredType model (message model f)

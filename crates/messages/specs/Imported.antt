@@ -25,7 +25,9 @@ pub record Imported (model : Bytes) (seed : ℕ) (lists : List ℕ) (i : Imports
 -- The import of a field was added.
 pub record ImportAdded (model : Bytes) (seed : ℕ) (i : Imports) (f : Field) (before after : List ℕ) (r : Imports) : Type 0 where
   pub held : Held model seed (i .listing .top) before after
-  pub imported : (domains later : List Bytes) → Imported model seed before i domains → ((x : Bytes) → member x later ≡ (same x (importOf model f) || member x domains)) → Imported model seed after r later
+  pub imported : (domains later : List Bytes) → Imported model seed before i domains
+      → ((x : Bytes) → member x later ≡ (same x (importOf model f) || member x domains))
+      → Imported model seed after r later
 
 unfoldable pub rulingOf : Heading → Ruling
 rulingOf (heading.Imported i) = ruling.Kept

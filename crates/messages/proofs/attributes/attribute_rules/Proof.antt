@@ -35,7 +35,9 @@ returns-3 c =
     let c5 = c4 .before in
     let c7 = c5 .before .before in
     let c9 = c7 .before .before in
-    c .refused2 .ensures ∙ attribute-refers _ _ _ (c9 .read-name .ensures) (c7 .naming .given .1) (c5 .text .ensures) (c4 .is-listed .ensures) (c3 .if1 .left) (c2 .bytes-of .ensures) (c1 .if2 .taken)
+    c .refused2 .ensures
+    ∙ attribute-refers _ _ _ (c9 .read-name .ensures) (c7 .naming .given .1) (c5 .text .ensures) (c4 .is-listed .ensures) (c3 .if1 .left)
+    (c2 .bytes-of .ensures) (c1 .if2 .taken)
 
 returns-4 : tie.Need-returns-4
 unfolding attributeRules earlierIn
@@ -49,7 +51,9 @@ returns-4 c =
     let c7 = c6 .before in
     let c9 = c7 .before .before in
     let c11 = c9 .before .before in
-    c .refused3 .ensures ∙ attribute-bad _ _ _ (c11 .read-name .ensures) (c9 .naming .given .1) (c7 .text .ensures) (c6 .is-listed .ensures) (c5 .if1 .left) (c4 .bytes-of .ensures) (c3 .if2 .left) (c2 .is-bad-value .ensures) (c1 .if3 .taken)
+    c .refused3 .ensures
+    ∙ attribute-bad _ _ _ (c11 .read-name .ensures) (c9 .naming .given .1) (c7 .text .ensures) (c6 .is-listed .ensures) (c5 .if1 .left)
+    (c4 .bytes-of .ensures) (c3 .if2 .left) (c2 .is-bad-value .ensures) (c1 .if3 .taken)
 
 returns-5 : tie.Need-returns-5
 unfolding attributeRules earlierIn rulingSays
@@ -62,15 +66,16 @@ returns-5 c =
     let c6 = c5 .before in
     let c8 = c6 .before .before in
     let c10 = c8 .before .before in
-    attribute-good _ _ _ (c10 .read-name .ensures) (c8 .naming .given .1) (c6 .text .ensures) (c5 .is-listed .ensures) (c4 .if1 .left) (c3 .bytes-of .ensures) (c2 .if2 .left) (c1 .is-bad-value .ensures) (c .if3 .left)
+    attribute-good _ _ _ (c10 .read-name .ensures) (c8 .naming .given .1) (c6 .text .ensures) (c5 .is-listed .ensures) (c4 .if1 .left)
+    (c3 .bytes-of .ensures) (c2 .if2 .left) (c1 .is-bad-value .ensures) (c .if3 .left)
 
 is-listed-requires : tie.Need-is-listed-requires
 unfolding earlierIn
 is-listed-requires c κs =
     let c2 = c .before .before in
     let c4 = c2 .before .before in
-    let c7 = c4 .before .before .before in
-    (c7 .pre, rw (c .text .ensures) (named-some _ _ _ _ _ (c4 .read-name .ensures) (c2 .naming .given .1)))
+    let entry = c4 .before .before .before in
+    (entry .pre, rw (c .text .ensures) (named-some _ _ _ _ _ (c4 .read-name .ensures) (c2 .naming .given .1)))
 
 pub attribute-rules-spec : {M : Type 1} → statement M
 attribute-rules-spec =

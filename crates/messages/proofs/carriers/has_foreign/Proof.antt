@@ -18,16 +18,39 @@ returns : tie.Need-returns Inv-loop μ-loop
 returns c = look-done (c .before .before .loop .inv) (c .if1 .taken) ∙ look-all _ _ _ (c .before .before .before .contents .ensures)
 
 returns-2 : tie.Need-returns-2 Inv-loop μ-loop
-returns-2 c = look-stop (c .before .before .before .before .before .loop .inv) (c .before .before .before .if1 .left) (c .before .before .field .ensures) (c .enum-told .given .1) ∙ look-all _ _ _ (c .before .before .before .before .before .before .contents .ensures)
+returns-2 c =
+    let c2 = c .before .before in
+    let c3 = c2 .before in
+    let loop = c3 .before .before in
+    let c6 = loop .before in
+    look-stop (loop .loop .inv) (c3 .if1 .left) (c2 .field .ensures) (c .enum-told .given .1) ∙ look-all _ _ _ (c6 .contents .ensures)
 
 returns-3 : tie.Need-returns-3 Inv-loop μ-loop
-returns-3 c = look-here (c .before .before .before .before .before .before .before .before .loop .inv) (c .before .before .before .before .before .before .if1 .left) (c .before .before .before .before .before .field .ensures) (c .before .before .before .read .given .1) (c .before .is-foreign .ensures) (c .if2 .taken) ∙ look-all _ _ _ (c .before .before .before .before .before .before .before .before .before .contents .ensures)
+returns-3 c =
+    let c1 = c .before in
+    let c3 = c1 .before .before in
+    let c5 = c3 .before .before in
+    let c6 = c5 .before in
+    let loop = c6 .before .before in
+    let c9 = loop .before in
+    look-here (loop .loop .inv) (c6 .if1 .left) (c5 .field .ensures) (c3 .read .given .1) (c1 .is-foreign .ensures) (c .if2 .taken) ∙ look-all _ _ _ (c9 .contents .ensures)
 
 loop-less : tie.Need-loop-less Inv-loop μ-loop
-loop-less c = look-falls (c .before .before .before .before .before .before .before .before .loop .inv) (c .before .before .before .before .before .before .if1 .left) (c .before .before .before .before .before .field .ensures) (c .before .before .before .read .given .1)
+loop-less c =
+    let c3 = c .before .before .before in
+    let c5 = c3 .before .before in
+    let c6 = c5 .before in
+    let loop = c6 .before .before in
+    look-falls (loop .loop .inv) (c6 .if1 .left) (c5 .field .ensures) (c3 .read .given .1)
 
 loop-again : tie.Need-loop-again Inv-loop μ-loop
-loop-again c = look-next (c .before .before .before .before .before .before .before .before .loop .inv) (c .before .before .before .before .before .before .if1 .left) (c .before .before .before .before .before .field .ensures) (c .before .before .before .read .given .1) (c .before .is-foreign .ensures) (c .if2 .left)
+loop-again c =
+    let c1 = c .before in
+    let c3 = c1 .before .before in
+    let c5 = c3 .before .before in
+    let c6 = c5 .before in
+    let loop = c6 .before .before in
+    look-next (loop .loop .inv) (c6 .if1 .left) (c5 .field .ensures) (c3 .read .given .1) (c1 .is-foreign .ensures) (c .if2 .left)
 
 pub has-foreign-spec : {M : Type 1} → statement M
 has-foreign-spec =

@@ -11,7 +11,9 @@ use Rattle.messages.proofs.earlier.is_earlier.Statement.{statement}
 use Rattle.messages.proofs.earlier.is_earlier.Tie as tie
 
 abbrev Inv-loop : tie.InvT-loop
-Inv-loop model number name place text c₀ c = Rereading model number (c₀ .end) (λ f. bytesOf model name (message model f)) place text (member text (map (λ f. bytesOf model name (message model f)) (before place (allFrom model number (c₀ .end) (c₀ .at))))) c
+Inv-loop model number name place text c₀ c =
+    Rereading model number (c₀ .end) (λ f. bytesOf model name (message model f)) place text
+    (member text (map (λ f. bytesOf model name (message model f)) (before place (allFrom model number (c₀ .end) (c₀ .at))))) c
 
 abbrev μ-loop : tie.MeasureT-loop
 μ-loop model number name place text c₀ c = c₀ .end - c .at
@@ -20,19 +22,49 @@ loop-holds : tie.Need-loop-holds Inv-loop μ-loop
 loop-holds c = record { ends = refl; rest = refl }
 
 returns : tie.Need-returns Inv-loop μ-loop
-returns c = reread-done (c .before .before .before .loop .inv) (c .before .before .next-of .ensures) (c .enum-told .given .1) ∙ reread-all _ _ _ _ _ _ (c .before .before .before .before .contents .ensures)
+returns c =
+    let c2 = c .before .before in
+    let loop = c2 .before in
+    let c4 = loop .before in
+    reread-done (loop .loop .inv) (c2 .next-of .ensures) (c .enum-told .given .1) ∙ reread-all _ _ _ _ _ _ (c4 .contents .ensures)
 
 returns-2 : tie.Need-returns-2 Inv-loop μ-loop
-returns-2 c = reread-past (c .before .before .before .before .before .before .loop .inv) (c .before .before .before .before .before .next-of .ensures) (c .before .before .before .sought .given .1) (c .if1 .taken) ∙ reread-all _ _ _ _ _ _ (c .before .before .before .before .before .before .before .contents .ensures)
+returns-2 c =
+    let c3 = c .before .before .before in
+    let c5 = c3 .before .before in
+    let loop = c5 .before in
+    let c7 = loop .before in
+    reread-past (loop .loop .inv) (c5 .next-of .ensures) (c3 .sought .given .1) (c .if1 .taken) ∙ reread-all _ _ _ _ _ _ (c7 .contents .ensures)
 
 returns-3 : tie.Need-returns-3 Inv-loop μ-loop
-returns-3 c = reread-here (c .before .before .before .before .before .before .before .before .before .loop .inv) (c .before .before .before .before .before .before .before .before .next-of .ensures) (c .before .before .before .before .before .before .sought .given .1) (c .before .before .before .if1 .left) (c .before .same-bytes .ensures ∙ ap (same _) (c .before .before .bytes-of .ensures)) (c .if2 .taken) ∙ reread-all _ _ _ _ _ _ (c .before .before .before .before .before .before .before .before .before .before .contents .ensures)
+returns-3 c =
+    let c1 = c .before in
+    let c2 = c1 .before in
+    let c3 = c2 .before in
+    let c6 = c3 .before .before .before in
+    let c8 = c6 .before .before in
+    let loop = c8 .before in
+    let c10 = loop .before in
+    reread-here (loop .loop .inv) (c8 .next-of .ensures) (c6 .sought .given .1) (c3 .if1 .left)
+    (c1 .same-bytes .ensures ∙ ap (same _) (c2 .bytes-of .ensures)) (c .if2 .taken)
+    ∙ reread-all _ _ _ _ _ _ (c10 .contents .ensures)
 
 loop-less : tie.Need-loop-less Inv-loop μ-loop
-loop-less c = reread-falls (c .before .before .before .before .before .before .before .before .before .loop .inv) (c .before .before .before .before .before .before .before .before .next-of .ensures) (c .before .before .before .before .before .before .sought .given .1)
+loop-less c =
+    let c6 = c .before .before .before .before .before .before in
+    let c8 = c6 .before .before in
+    let loop = c8 .before in
+    reread-falls (loop .loop .inv) (c8 .next-of .ensures) (c6 .sought .given .1)
 
 loop-again : tie.Need-loop-again Inv-loop μ-loop
-loop-again c = reread-next (c .before .before .before .before .before .before .before .before .before .loop .inv) (c .before .before .before .before .before .before .before .before .next-of .ensures) (c .before .before .before .before .before .before .sought .given .1) (c .before .before .before .if1 .left) (c .before .same-bytes .ensures ∙ ap (same _) (c .before .before .bytes-of .ensures)) (c .if2 .left)
+loop-again c =
+    let c1 = c .before in
+    let c2 = c1 .before in
+    let c3 = c2 .before in
+    let c6 = c3 .before .before .before in
+    let c8 = c6 .before .before in
+    let loop = c8 .before in
+    reread-next (loop .loop .inv) (c8 .next-of .ensures) (c6 .sought .given .1) (c3 .if1 .left) (c1 .same-bytes .ensures ∙ ap (same _) (c2 .bytes-of .ensures)) (c .if2 .left)
 
 pub is-earlier-spec : {M : Type 1} → statement M
 is-earlier-spec =

@@ -5,14 +5,14 @@ use Rattle.messages.proofs.earlier.is_listed.Tie as tie
 
 has-requires : tie.Need-has-requires
 has-requires c κs =
-    let c4 = c .before .before .before .before in
-    (c4 .pre .0 .index, c4 .pre .0 .fits)
+    let entry = c .before .before .before .before in
+    (entry .pre .0 .index, entry .pre .0 .fits)
 
 returns : tie.Need-returns
 returns c =
     let c1 = c .before in
-    let c5 = c1 .before .before .before .before in
-    c .has .ensures ∙ c5 .pre .0 .finds (c1 .if1 .taken) _ (c5 .pre .1)
+    let entry = c1 .before .before .before .before in
+    c .has .ensures ∙ entry .pre .0 .finds (c1 .if1 .taken) _ (entry .pre .1)
 
 pub is-listed-spec : {M : Type 1} → statement M
 is-listed-spec =

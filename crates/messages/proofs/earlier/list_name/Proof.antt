@@ -8,16 +8,16 @@ use Rattle.messages.proofs.earlier.list_name.Tie as tie
 returns : tie.Need-returns
 returns c =
     let c2 = c .before .before in
-    let c5 = c2 .before .before .before in
-    added-empty (c5 .pre .0) (c5 .pre .1 .0) (absent-empty (bytes-missing _ _ _ _ (c2 .first-of .ensures) (c .enum-told .given .1)))
+    let entry = c2 .before .before .before in
+    added-empty (entry .pre .0) (entry .pre .1 .0) (absent-empty (bytes-missing _ _ _ _ (c2 .first-of .ensures) (c .enum-told .given .1)))
 
 returns-2 : tie.Need-returns-2
 returns-2 c =
     let c1 = c .before in
     let c3 = c1 .before .before in
     let c5 = c3 .before .before in
-    let c8 = c5 .before .before .before in
-    added-empty (c8 .pre .0) (c8 .pre .1 .0) (text-empty (c1 .text .ensures) (bytes-found _ _ _ _ (c5 .first-of .ensures) (c3 .name .given .1)) (c .if1 .taken))
+    let entry = c5 .before .before .before in
+    added-empty (entry .pre .0) (entry .pre .1 .0) (text-empty (c1 .text .ensures) (bytes-found _ _ _ _ (c5 .first-of .ensures) (c3 .name .given .1)) (c .if1 .taken))
 
 returns-3 : tie.Need-returns-3
 returns-3 c =

@@ -4,7 +4,8 @@ use borrow.Author.Tests.{not-true, not-false}
 use Rattle.index.proofs.ListingLaws.{held-all}
 use Rattle.messages.specs.Answers.{rulingSays}
 use Rattle.messages.specs.Imported.{rulingOf}
-use Rattle.messages.proofs.HeaderLaws.{header-version, header-graph, header-import, header-imports-refused, header-functions, header-kept, refused-heading, imported-heading, holds-as}
+use Rattle.messages.proofs.HeaderLaws.{header-version, header-graph, header-import, header-imports-refused}
+use Rattle.messages.proofs.HeaderLaws.{header-functions, header-kept, refused-heading, imported-heading, holds-as}
 use borrow.Author.Needs.{needs}
 use Rattle.messages.proofs.headers.header.Statement.{statement}
 use Rattle.messages.proofs.headers.header.Tie as tie
@@ -16,8 +17,12 @@ returns c =
     let c3 = c2 .before in
     let c4 = c3 .before in
     let c5 = c4 .before in
-    let c9 = c5 .before .before .before .before in
-    (c .unheaded .ensures .0 ∙ header-version _ _ (c5 .whole .ensures) (c4 .number-from .ensures) (c3 .is-ir-version .ensures) (not-true _ (c2 .if1 .taken)) (c1 .place-of .ensures), (c .unheaded .ensures .1 _ _ _, held-all (c9 .pre .1 .0) (omega arith)))
+    let entry = c5 .before .before .before .before in (
+      c .unheaded .ensures .0
+          ∙ header-version _ _ (c5 .whole .ensures) (c4 .number-from .ensures) (c3 .is-ir-version .ensures) (not-true _ (c2 .if1 .taken))
+          (c1 .place-of .ensures),
+      (c .unheaded .ensures .1 _ _ _, held-all (entry .pre .1 .0) (omega arith)),
+    )
 
 returns-2 : tie.Need-returns-2
 returns-2 c =
@@ -27,8 +32,12 @@ returns-2 c =
     let c4 = c3 .before in
     let c5 = c4 .before in
     let c6 = c5 .before in
-    let c10 = c6 .before .before .before .before in
-    (c .unheaded2 .ensures .0 ∙ header-graph _ _ (c6 .whole .ensures) (c5 .number-from .ensures) (c4 .is-ir-version .ensures) (not-false _ (c3 .if1 .left)) (c2 .has-from .ensures) (not-true _ (c1 .if2 .taken)), (c .unheaded2 .ensures .1 _ _ _, held-all (c10 .pre .1 .0) (omega arith)))
+    let entry = c6 .before .before .before .before in (
+      c .unheaded2 .ensures .0
+          ∙ header-graph _ _ (c6 .whole .ensures) (c5 .number-from .ensures) (c4 .is-ir-version .ensures) (not-false _ (c3 .if1 .left))
+          (c2 .has-from .ensures) (not-true _ (c1 .if2 .taken)),
+      (c .unheaded2 .ensures .1 _ _ _, held-all (entry .pre .1 .0) (omega arith)),
+    )
 
 returns-3 : tie.Need-returns-3
 returns-3 c =
@@ -40,10 +49,10 @@ returns-3 c =
     let c6 = c5 .before in
     let c7 = c6 .before in
     let c8 = c7 .before in
-    let c12 = c8 .before .before .before .before in (
+    let entry = c8 .before .before .before .before in (
       c .unheaded3 .ensures .0 ∙ header-import _ _ (c8 .whole .ensures) (c7 .number-from .ensures) (c6 .is-ir-version .ensures) (not-false _
           (c5 .if1 .left)) (c4 .has-from .ensures) (not-false _ (c3 .if2 .left)) (c2 .has-from2 .ensures) (not-true _ (c1 .if3 .taken)),
-      (c .unheaded3 .ensures .1 _ _ _, held-all (c12 .pre .1 .0) (omega arith)),
+      (c .unheaded3 .ensures .1 _ _ _, held-all (entry .pre .1 .0) (omega arith)),
     )
 
 returns-4 : tie.Need-returns-4
@@ -110,31 +119,31 @@ returns-6 c =
 
 number-from-requires : tie.Need-number-from-requires
 number-from-requires c κs =
-    let c4 = c .before .before .before .before in
-    rw (c .whole .ensures) (c4 .pre .0 .version)
+    let entry = c .before .before .before .before in
+    rw (c .whole .ensures) (entry .pre .0 .version)
 
 has-from-requires : tie.Need-has-from-requires
 has-from-requires c κs =
     let c3 = c .before .before .before in
-    let c7 = c3 .before .before .before .before in
-    rw (c3 .whole .ensures) (c7 .pre .0 .graph)
+    let entry = c3 .before .before .before .before in
+    rw (c3 .whole .ensures) (entry .pre .0 .graph)
 
 has-from-requires-2 : tie.Need-has-from-requires-2
 has-from-requires-2 c κs =
     let c5 = c .before .before .before .before .before in
-    let c9 = c5 .before .before .before .before in
-    rw (c5 .whole .ensures) (c9 .pre .0 .imports)
+    let entry = c5 .before .before .before .before in
+    rw (c5 .whole .ensures) (entry .pre .0 .imports)
 
 opset-imports-requires : tie.Need-opset-imports-requires
 opset-imports-requires c κs =
-    let c12 = c .before .before .before .before .before .before .before .before .before .before .before .before in
-    (c12 .pre .0 .imports, c12 .pre .1)
+    let entry = c .before .before .before .before .before .before .before .before .before .before .before .before in
+    (entry .pre .0 .imports, entry .pre .1)
 
 has-from-requires-3 : tie.Need-has-from-requires-3
 has-from-requires-3 c κs =
     let c14 = c .before .before .before .before .before .before .before .before .before .before .before .before .before .before in
-    let c18 = c14 .before .before .before .before in
-    rw (c14 .whole .ensures) (c18 .pre .0 .functions)
+    let entry = c14 .before .before .before .before in
+    rw (c14 .whole .ensures) (entry .pre .0 .functions)
 
 pub header-spec : {M : Type 1} → statement M
 header-spec =

@@ -6,21 +6,21 @@ use Rattle.messages.proofs.imports.is_imported.Tie as tie
 returns : tie.Need-returns
 returns c =
     let c1 = c .before in
-    let c5 = c1 .before .before .before .before in
-    imported-default (c5 .pre) _ (c1 .canonical .ensures) (c .if1 .taken)
+    let entry = c1 .before .before .before .before in
+    imported-default (entry .pre) _ (c1 .canonical .ensures) (c .if1 .taken)
 
 has-requires : tie.Need-has-requires
 has-requires c κs =
-    let c7 = c .before .before .before .before .before .before .before in
-    (c7 .pre .listed .index, c7 .pre .listed .fits)
+    let entry = c .before .before .before .before .before .before .before in
+    (entry .pre .listed .index, entry .pre .listed .fits)
 
 returns-2 : tie.Need-returns-2
 returns-2 c =
     let c1 = c .before in
     let c3 = c1 .before .before in
     let c4 = c3 .before in
-    let c8 = c4 .before .before .before .before in
-    imported-named (c8 .pre) _ (c4 .canonical .ensures) (c3 .if1 .left) (c1 .if2 .taken) (c .has .ensures)
+    let entry = c4 .before .before .before .before in
+    imported-named (entry .pre) _ (c4 .canonical .ensures) (c3 .if1 .left) (c1 .if2 .taken) (c .has .ensures)
 
 pub is-imported-spec : {M : Type 1} → statement M
 is-imported-spec =

@@ -24,15 +24,15 @@ loop-holds c = rw (c .contents .ensures ∙ ap contentsOf (c .before .whole .ens
 returns : tie.Need-returns Inv-loop μ-loop
 returns c =
     let c2 = c .before .before in
-    let c3 = c2 .before in
-    reread-done (c3 .loop .inv) (c2 .next-of .ensures) (c .enum-told .given .1)
+    let loop = c2 .before in
+    reread-done (loop .loop .inv) (c2 .next-of .ensures) (c .enum-told .given .1)
 
 returns-2 : tie.Need-returns-2 Inv-loop μ-loop
 returns-2 c =
     let c3 = c .before .before .before in
     let c5 = c3 .before .before in
-    let c6 = c5 .before in
-    reread-past (c6 .loop .inv) (c5 .next-of .ensures) (c3 .sought .given .1) (c .if1 .taken)
+    let loop = c5 .before in
+    reread-past (loop .loop .inv) (c5 .next-of .ensures) (c3 .sought .given .1) (c .if1 .taken)
 
 returns-3 : tie.Need-returns-3 Inv-loop μ-loop
 returns-3 c =
@@ -41,15 +41,16 @@ returns-3 c =
     let c3 = c2 .before in
     let c6 = c3 .before .before .before in
     let c8 = c6 .before .before in
-    let c9 = c8 .before in
-    reread-here (c9 .loop .inv) (c8 .next-of .ensures) (c6 .sought .given .1) (c3 .if1 .left) (same-import _ _ _ (c2 .bytes-of .ensures) (c1 .same-domain .ensures)) (c .if2 .taken)
+    let loop = c8 .before in
+    reread-here (loop .loop .inv) (c8 .next-of .ensures) (c6 .sought .given .1) (c3 .if1 .left)
+    (same-import _ _ _ (c2 .bytes-of .ensures) (c1 .same-domain .ensures)) (c .if2 .taken)
 
 loop-less : tie.Need-loop-less Inv-loop μ-loop
 loop-less c =
     let c6 = c .before .before .before .before .before .before in
     let c8 = c6 .before .before in
-    let c9 = c8 .before in
-    reread-falls (c9 .loop .inv) (c8 .next-of .ensures) (c6 .sought .given .1)
+    let loop = c8 .before in
+    reread-falls (loop .loop .inv) (c8 .next-of .ensures) (c6 .sought .given .1)
 
 loop-again : tie.Need-loop-again Inv-loop μ-loop
 loop-again c =
@@ -58,8 +59,9 @@ loop-again c =
     let c3 = c2 .before in
     let c6 = c3 .before .before .before in
     let c8 = c6 .before .before in
-    let c9 = c8 .before in
-    reread-next (c9 .loop .inv) (c8 .next-of .ensures) (c6 .sought .given .1) (c3 .if1 .left) (same-import _ _ _ (c2 .bytes-of .ensures) (c1 .same-domain .ensures)) (c .if2 .left)
+    let loop = c8 .before in
+    reread-next (loop .loop .inv) (c8 .next-of .ensures) (c6 .sought .given .1) (c3 .if1 .left)
+    (same-import _ _ _ (c2 .bytes-of .ensures) (c1 .same-domain .ensures)) (c .if2 .left)
 
 pub is-imported-before-spec : {M : Type 1} → statement M
 is-imported-before-spec =

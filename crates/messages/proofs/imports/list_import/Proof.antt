@@ -7,8 +7,8 @@ returns : tie.Need-returns
 returns c =
     let c1 = c .before in
     let c2 = c1 .before in
-    let c6 = c2 .before .before .before .before in
-    import-default _ (c6 .pre .0) (c6 .pre .1 .0) _ (c2 .bytes-of .ensures) (c1 .canonical .ensures) (c .if1 .taken)
+    let entry = c2 .before .before .before .before in
+    import-default _ (entry .pre .0) (entry .pre .1 .0) _ (c2 .bytes-of .ensures) (c1 .canonical .ensures) (c .if1 .taken)
 
 returns-2 : tie.Need-returns-2
 returns-2 c =
@@ -16,8 +16,8 @@ returns-2 c =
     let c4 = c2 .before .before in
     let c5 = c4 .before in
     let c6 = c5 .before in
-    let c10 = c6 .before .before .before .before in
-    import-named _ (c10 .pre .0) (c10 .pre .1 .0) _ (c6 .bytes-of .ensures) (c5 .canonical .ensures) (c4 .if1 .left) (c2 .list-name .ensures)
+    let entry = c6 .before .before .before .before in
+    import-named _ (entry .pre .0) (entry .pre .1 .0) _ (c6 .bytes-of .ensures) (c5 .canonical .ensures) (c4 .if1 .left) (c2 .list-name .ensures)
 
 pub list-import-spec : {M : Type 1} → statement M
 list-import-spec =

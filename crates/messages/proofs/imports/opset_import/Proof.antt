@@ -21,7 +21,9 @@ returns-2 c =
     let c4 = c3 .before in
     let c5 = c4 .before in
     let c6 = c5 .before in
-    c .refused2 .ensures ∙ import-unlisted _ _ _ _ (c6 .bytes-of .ensures) (c5 .is-imported .ensures) (c4 .if1 .left) (c3 .number-of .ensures) (c2 .allows .ensures) (not-true _ (c1 .if2 .taken))
+    c .refused2 .ensures
+    ∙ import-unlisted _ _ _ _ (c6 .bytes-of .ensures) (c5 .is-imported .ensures) (c4 .if1 .left) (c3 .number-of .ensures) (c2 .allows .ensures)
+    (not-true _ (c1 .if2 .taken))
 
 returns-3 : tie.Need-returns-3
 unfolding rulingSays

@@ -17,22 +17,24 @@ abbrev μ-loop : tie.MeasureT-loop
 
 loop-holds : tie.Need-loop-holds Inv-loop μ-loop
 loop-holds c =
-    let c3 = c .before .before .before in
-    keeping-start _ _ _ (c3 .pre .0) (c3 .pre .1 .0)
+    let entry = c .before .before .before in
+    keeping-start _ _ _ (entry .pre .0) (entry .pre .1 .0)
 
 returns : tie.Need-returns Inv-loop μ-loop
 unfolding rulingSays rulingOf holds
 returns c =
     let c2 = c .before .before in
-    let c3 = c2 .before in
-    (importing-end (c3 .loop .inv .importing) (c2 .next-of .ensures) (c .enum-told .given .1), (keeping-end (c3 .loop .inv) (c2 .next-of .ensures) (c .enum-told .given .1), c3 .loop .inv .held))
+    let loop = c2 .before in (
+      importing-end (loop .loop .inv .importing) (c2 .next-of .ensures) (c .enum-told .given .1),
+      (keeping-end (loop .loop .inv) (c2 .next-of .ensures) (c .enum-told .given .1), loop .loop .inv .held),
+    )
 
 opset-import-requires : tie.Need-opset-import-requires Inv-loop μ-loop
 opset-import-requires c κs =
     let c2 = c .before .before in
     let c4 = c2 .before .before in
-    let c5 = c4 .before in
-    keeping-before (c5 .loop .inv) (c4 .next-of .ensures) (c2 .sought .given .1)
+    let loop = c4 .before in
+    keeping-before (loop .loop .inv) (c4 .next-of .ensures) (c2 .sought .given .1)
 
 returns-2 : tie.Need-returns-2 Inv-loop μ-loop
 returns-2 c =
@@ -40,24 +42,24 @@ returns-2 c =
     let c3 = c1 .before .before in
     let c6 = c3 .before .before .before in
     let c8 = c6 .before .before in
-    let c9 = c8 .before in (
-      ap rulingSays (headed-same _ _ (c .headed .ensures)) ∙ importing-stops (c9 .loop .inv .importing) (c8 .next-of .ensures) (c6 .sought .given .1) _
+    let loop = c8 .before in (
+      ap rulingSays (headed-same _ _ (c .headed .ensures)) ∙ importing-stops (loop .loop .inv .importing) (c8 .next-of .ensures) (c6 .sought .given .1) _
           (c3 .opset-import .ensures) (c1 .enum-told3 .given .1),
-      (headed-holds _ _ (c .headed .ensures) (c1 .enum-told3 .given .1) _ _ _, c9 .loop .inv .held),
+      (headed-holds _ _ (c .headed .ensures) (c1 .enum-told3 .given .1) _ _ _, loop .loop .inv .held),
     )
 
 list-import-requires : tie.Need-list-import-requires Inv-loop μ-loop
 list-import-requires c κs =
-    let c9 = c .before .before .before .before .before .before .before .before .before in
-    let c13 = c9 .before .before .before .before in
-    (c9 .loop .inv .imported .listed .index, (c9 .loop .inv .imported .listed .fits, c13 .pre .1 .1))
+    let loop = c .before .before .before .before .before .before .before .before .before in
+    let entry = loop .before .before .before .before in
+    (loop .loop .inv .imported .listed .index, (loop .loop .inv .imported .listed .fits, entry .pre .1 .1))
 
 loop-less : tie.Need-loop-less Inv-loop μ-loop
 loop-less c =
     let c9 = c .before .before .before .before .before .before .before .before .before in
     let c11 = c9 .before .before in
-    let c12 = c11 .before in
-    import-falls _ _ (c12 .loop .inv .importing .ends) (c11 .next-of .ensures) (c9 .sought .given .1)
+    let loop = c11 .before in
+    import-falls _ _ (loop .loop .inv .importing .ends) (c11 .next-of .ensures) (c9 .sought .given .1)
 
 loop-again : tie.Need-loop-again Inv-loop μ-loop
 loop-again c =
@@ -66,8 +68,8 @@ loop-again c =
     let c6 = c4 .before .before in
     let c9 = c6 .before .before .before in
     let c11 = c9 .before .before in
-    let c12 = c11 .before in
-    keeping-goes (c12 .loop .inv) (c11 .next-of .ensures) (c9 .sought .given .1) _ (c6 .opset-import .ensures) (c4 .enum-told2 .given .1) (c2 .list-import .ensures)
+    let loop = c11 .before in
+    keeping-goes (loop .loop .inv) (c11 .next-of .ensures) (c9 .sought .given .1) _ (c6 .opset-import .ensures) (c4 .enum-told2 .given .1) (c2 .list-import .ensures)
 
 pub opset-imports-spec : {M : Type 1} → statement M
 opset-imports-spec =

@@ -21,7 +21,9 @@ returns-2 c =
     let c4 = c3 .before in
     let c5 = c4 .before in
     let c7 = c5 .before .before in
-    c .refused .ensures ∙ head-foreign _ _ _ _ (c7 .read-name .ensures) (c5 .enum-told .given .1) (c4 .bytes-of .ensures) (c3 .is-imported .ensures ∙ ap (member _) (imports-all _)) (not-true _ (c2 .if1 .taken)) (c1 .place-of .ensures)
+    c .refused .ensures
+    ∙ head-foreign _ _ _ _ (c7 .read-name .ensures) (c5 .enum-told .given .1) (c4 .bytes-of .ensures)
+    (c3 .is-imported .ensures ∙ ap (member _) (imports-all _)) (not-true _ (c2 .if1 .taken)) (c1 .place-of .ensures)
 
 returns-3 : tie.Need-returns-3
 returns-3 c =
@@ -30,17 +32,19 @@ returns-3 c =
     let c3 = c2 .before in
     let c4 = c3 .before in
     let c6 = c4 .before .before in
-    c .node-name .ensures ∙ head-named _ _ _ _ (c6 .read-name .ensures) (c4 .enum-told .given .1) (c3 .bytes-of .ensures) (c2 .is-imported .ensures ∙ ap (member _) (imports-all _)) (not-false _ (c1 .if1 .left))
+    c .node-name .ensures
+    ∙ head-named _ _ _ _ (c6 .read-name .ensures) (c4 .enum-told .given .1) (c3 .bytes-of .ensures)
+    (c2 .is-imported .ensures ∙ ap (member _) (imports-all _)) (not-false _ (c1 .if1 .left))
 
 is-imported-requires : tie.Need-is-imported-requires
 is-imported-requires c κs =
-    let c6 = c .before .before .before .before .before .before in
-    rw (imports-all _) (c6 .pre .0)
+    let entry = c .before .before .before .before .before .before in
+    rw (imports-all _) (entry .pre .0)
 
 node-name-requires : tie.Need-node-name-requires
 node-name-requires c κs =
-    let c8 = c .before .before .before .before .before .before .before .before in
-    c8 .pre .1
+    let entry = c .before .before .before .before .before .before .before .before in
+    entry .pre .1
 
 pub node-head-spec : {M : Type 1} → statement M
 node-head-spec =

@@ -29,7 +29,9 @@ returns-3 c =
     let c4 = c3 .before in
     let c6 = c4 .before .before in
     let c8 = c6 .before .before in
-    c .refused .ensures ∙ node-misnamed _ _ _ (found _ _ _ _ (c8 .first-of .ensures) (c6 .name .given .1)) (c4 .text .ensures) (c3 .if1 .left) (c2 .is-identifier .ensures) (not-true _ (c1 .if2 .taken))
+    c .refused .ensures
+    ∙ node-misnamed _ _ _ (found _ _ _ _ (c8 .first-of .ensures) (c6 .name .given .1)) (c4 .text .ensures) (c3 .if1 .left)
+    (c2 .is-identifier .ensures) (not-true _ (c1 .if2 .taken))
 
 returns-4 : tie.Need-returns-4
 unfolding earlierIn
@@ -42,7 +44,9 @@ returns-4 c =
     let c6 = c5 .before in
     let c8 = c6 .before .before in
     let c10 = c8 .before .before in
-    c .refused2 .ensures ∙ node-twice _ _ _ (found _ _ _ _ (c10 .first-of .ensures) (c8 .name .given .1)) (c6 .text .ensures) (c5 .if1 .left) (c4 .is-identifier .ensures) (not-false _ (c3 .if2 .left)) (c2 .is-listed .ensures) (c1 .if3 .taken)
+    c .refused2 .ensures
+    ∙ node-twice _ _ _ (found _ _ _ _ (c10 .first-of .ensures) (c8 .name .given .1)) (c6 .text .ensures) (c5 .if1 .left) (c4 .is-identifier .ensures)
+    (not-false _ (c3 .if2 .left)) (c2 .is-listed .ensures) (c1 .if3 .taken)
 
 returns-5 : tie.Need-returns-5
 unfolding rulingSays earlierIn
@@ -54,14 +58,15 @@ returns-5 c =
     let c5 = c4 .before in
     let c7 = c5 .before .before in
     let c9 = c7 .before .before in
-    node-named _ _ _ (found _ _ _ _ (c9 .first-of .ensures) (c7 .name .given .1)) (c5 .text .ensures) (c4 .if1 .left) (c3 .is-identifier .ensures) (not-false _ (c2 .if2 .left)) (c1 .is-listed .ensures) (c .if3 .left)
+    node-named _ _ _ (found _ _ _ _ (c9 .first-of .ensures) (c7 .name .given .1)) (c5 .text .ensures) (c4 .if1 .left) (c3 .is-identifier .ensures)
+    (not-false _ (c2 .if2 .left)) (c1 .is-listed .ensures) (c .if3 .left)
 
 is-listed-requires : tie.Need-is-listed-requires
 unfolding earlierIn
 is-listed-requires c κs =
     let c2 = c .before .before in
-    let c10 = c2 .before .before .before .before .before .before .before .before in
-    (c10 .pre, empty-some _ (c2 .if1 .left))
+    let entry = c2 .before .before .before .before .before .before .before .before in
+    (entry .pre, empty-some _ (c2 .if1 .left))
 
 pub node-name-spec : {M : Type 1} → statement M
 node-name-spec =

@@ -21,16 +21,35 @@ loop-holds c = along-start _ _ _ _ _
 
 returns : tie.Need-returns Inv-loop μ-loop
 unfolding rulingSays
-returns c = sym (along-done (c .before .before .before .loop .inv) (c .before .before .next-of .ensures) (c .enum-told .given .1)) ∙ along-contents _ _ _ _ _ (c .before .before .before .before .contents .ensures)
+returns c =
+    let c2 = c .before .before in
+    let loop = c2 .before in
+    let c4 = loop .before in
+    sym (along-done (loop .loop .inv) (c2 .next-of .ensures) (c .enum-told .given .1)) ∙ along-contents _ _ _ _ _ (c4 .contents .ensures)
 
 returns-2 : tie.Need-returns-2 Inv-loop μ-loop
-returns-2 c = rule-stops (c .before .before .before .before .before .before .before .loop .inv) (c .before .before .before .before .before .before .next-of .ensures) (c .before .before .before .before .sought .given .1) (c .before .before .dim .ensures) (c .enum-told3 .given .1) ∙ along-contents _ _ _ _ _ (c .before .before .before .before .before .before .before .before .contents .ensures)
+returns-2 c =
+    let c2 = c .before .before in
+    let c4 = c2 .before .before in
+    let c6 = c4 .before .before in
+    let loop = c6 .before in
+    let c8 = loop .before in
+    rule-stops (loop .loop .inv) (c6 .next-of .ensures) (c4 .sought .given .1) (c2 .dim .ensures) (c .enum-told3 .given .1) ∙ along-contents _ _ _ _ _ (c8 .contents .ensures)
 
 loop-less : tie.Need-loop-less Inv-loop μ-loop
-loop-less c = along-falls (c .before .before .before .before .before .before .before .loop .inv) (c .before .before .before .before .before .before .next-of .ensures) (c .before .before .before .before .sought .given .1)
+loop-less c =
+    let c4 = c .before .before .before .before in
+    let c6 = c4 .before .before in
+    let loop = c6 .before in
+    along-falls (loop .loop .inv) (c6 .next-of .ensures) (c4 .sought .given .1)
 
 loop-again : tie.Need-loop-again Inv-loop μ-loop
-loop-again c = rule-goes (c .before .before .before .before .before .before .before .loop .inv) (c .before .before .before .before .before .before .next-of .ensures) (c .before .before .before .before .sought .given .1) (c .before .before .dim .ensures) (c .enum-told2 .given .1)
+loop-again c =
+    let c2 = c .before .before in
+    let c4 = c2 .before .before in
+    let c6 = c4 .before .before in
+    let loop = c6 .before in
+    rule-goes (loop .loop .inv) (c6 .next-of .ensures) (c4 .sought .given .1) (c2 .dim .ensures) (c .enum-told2 .given .1)
 
 pub dims-spec : {M : Type 1} → statement M
 dims-spec =

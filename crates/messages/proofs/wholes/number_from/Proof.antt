@@ -8,14 +8,14 @@ returns : tie.Need-returns
 returns c =
     let c1 = c .before in
     let c3 = c1 .before .before in
-    let c5 = c3 .before .before in
-    number-found _ _ _ _ (started-first _ _ _ (c5 .pre) _ (c3 .first-from .ensures)) (c1 .f .given .1)
+    let entry = c3 .before .before in
+    number-found _ _ _ _ (started-first _ _ _ (entry .pre) _ (c3 .first-from .ensures)) (c1 .f .given .1)
 
 returns-2 : tie.Need-returns-2
 returns-2 c =
     let c2 = c .before .before in
-    let c4 = c2 .before .before in
-    number-missing _ _ _ _ (started-first _ _ _ (c4 .pre) _ (c2 .first-from .ensures)) (c .enum-told .given .1)
+    let entry = c2 .before .before in
+    number-missing _ _ _ _ (started-first _ _ _ (entry .pre) _ (c2 .first-from .ensures)) (c .enum-told .given .1)
 
 pub number-from-spec : {M : Type 1} → statement M
 number-from-spec =
