@@ -26,10 +26,18 @@ loop-holds : tie.Need-loop-holds Inv-loop μ-loop
 loop-holds c = spell-start _ (c .before .before .before .if1 .left) _ (c .before .is-letter .ensures) (not-false _ (c .if2 .left))
 
 returns-3 : tie.Need-returns-3 Inv-loop μ-loop
-returns-3 c = spell-other (c .before .before .before .before .loop .inv) (c .before .before .before .loop-test .taken) _ (c .before .is-identifier-byte .ensures) (not-true _ (c .if3 .taken))
+returns-3 c =
+    let c1 = c .before in
+    let c3 = c1 .before .before in
+    let loop = c3 .before in
+    spell-other (loop .loop .inv) (c3 .loop-test .taken) _ (c1 .is-identifier-byte .ensures) (not-true _ (c .if3 .taken))
 
 loop-again : tie.Need-loop-again Inv-loop μ-loop
-loop-again c = spell-next (c .before .before .before .before .loop .inv) (c .before .before .before .loop-test .taken) _ (c .before .is-identifier-byte .ensures) (not-false _ (c .if3 .left))
+loop-again c =
+    let c1 = c .before in
+    let c3 = c1 .before .before in
+    let loop = c3 .before in
+    spell-next (loop .loop .inv) (c3 .loop-test .taken) _ (c1 .is-identifier-byte .ensures) (not-false _ (c .if3 .left))
 
 returns-4 : tie.Need-returns-4 Inv-loop μ-loop
 returns-4 c = spell-end (c .before .loop .inv) (c .loop-test .left)
