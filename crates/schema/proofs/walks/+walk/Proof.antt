@@ -76,9 +76,9 @@ walk-μ-loop s kind depth start end seen₀ c₀ seen c = end - c .at
 -- what is known once the row of a field is known, and once the field has been read
 tagging : (t : ℕ) (c : walk-lts.After-row-of (walk-claims t) (walk-at t) walk.Post walk-Inv-loop walk-μ-loop)
     → (let c2 = c .before .before in
-    let c6 = c2 .before .before .before .before in
-    let l = c6 .loop in
-    let a = c6 .before .before .args in
+    let loop = c2 .before .before .before .before in
+    let l = loop .loop in
+    let a = loop .before .before .args in
     Tagged (now (a .s)) (a .kind) (a .depth) (a .start) (a .end) (l .seen) (l .c) (c2 .tagged .given .0 .0) (c .row-of .result))
 tagging t c =
     let c2 = c .before .before in
@@ -91,9 +91,9 @@ turned : (t : ℕ) (c : walk-lts.After-known-told2 (walk-claims t) (walk-at t) w
     → (let c1 = c .before in
     let c7 = c1 .before .before .before .before .before .before in
     let c10 = c7 .before .before .before in
-    let c16 = c10 .before .before .before .before .before .before in
-    let l = c16 .loop in
-    let a = c16 .before .before .args in
+    let loop = c10 .before .before .before .before .before .before in
+    let l = loop .loop in
+    let a = loop .before .before .args in
     Turned (now (a .s)) (a .kind) (a .depth) (a .start) (a .end) (l .seen) (l .c) (c10 .row-of .result) (c7 .slot-of .result) (c1 .read .given .0 .0)
     (c1 .read .given .0 .1 .0))
 turned t c =
