@@ -26,11 +26,11 @@ use Rattle.rules.specs.Verdict.{fills}
 use Rattle.rules.specs.Node.{carriers, badValue, body}
 use Rattle.rules.specs.Graph.{output}
 use Rattle.scope.specs.Scope.{scopeIn, walkIn, stepSays, standing, left, grows, Enters, counted, Keeps}
-use Rattle.messages.specs.Answers.{rulingSays}
+use Rattle.values.specs.Answers.{rulingSays}
 use Rattle.messages.specs.Heads.{attributeRules}
 use Rattle.parts.specs.Again.{context, nodeRules, opening, closing, attributeAgain, nodeAgain, graphFrom, graphAgain}
-use Rattle.messages.specs.declared.Ruling.{Ruling}
-use Rattle.messages.specs.declared.Ruling.the-variants as ruling
+use Rattle.values.specs.declared.Ruling.{Ruling}
+use Rattle.values.specs.declared.Ruling.the-variants as ruling
 use Rattle.scope.specs.declared.scopes.Progress.{Progress}
 use Rattle.scope.specs.declared.scopes.Step.{Step}
 use Rattle.scope.specs.declared.scopes.Step.the-variants as step
@@ -38,9 +38,9 @@ use Rattle.scope.proofs.ScopeLaws.{scope-prefix, keeps-fewer, keeps-then}
 use Rattle.messages.proofs.AttributeLaws.{attribute-value}
 use Rattle.parts.proofs.StepLaws.{Adder}
 use Rattle.cycle.proofs.CycleLaws.{Going, enters-low, going-few, going-done, going-stops, going-goes}
-use Rattle.messages.proofs.RulingLaws.{ruled-kept}
+use Rattle.values.proofs.RulingLaws.{ruled-kept}
 use Rattle.parts.proofs.OpeningLaws.{grows-then, opening-stays}
-use Rattle.parts.proofs.ClosingLaws.{closing-counts}
+use Rattle.nodes.proofs.ClosingLaws.{closing-counts}
 use Rattle.cycle.proofs.BodyLaws.{bodies-none, bodies-all}
 use Rattle.cycle.proofs.PromiseLaws.{Promised, refusing, refused-bind, staying, standing-says, standing-grows}
 use Rattle.cycle.proofs.PromiseLaws.{standing-counts, used-more, ruled-stops, ruled-goes, loop-done, loop-stops}

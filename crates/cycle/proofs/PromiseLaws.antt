@@ -18,16 +18,16 @@ use Rattle.wire.proofs.CursorLaws.{says}
 use Rattle.wire.proofs.Passing.{fail-no-pass}
 use Rattle.rules.specs.Walk.{Walk}
 use Rattle.scope.specs.Scope.{walkIn, stepSays, standing, grows, Enters, counted, Keeps}
-use Rattle.messages.specs.Answers.{rulingSays}
-use Rattle.messages.specs.declared.Ruling.{Ruling}
-use Rattle.messages.specs.declared.Ruling.the-variants as ruling
+use Rattle.values.specs.Answers.{rulingSays}
+use Rattle.values.specs.declared.Ruling.{Ruling}
+use Rattle.values.specs.declared.Ruling.the-variants as ruling
 use Rattle.scope.specs.declared.scopes.Progress.{Progress}
 use Rattle.scope.specs.declared.scopes.Step.{Step}
 use Rattle.scope.specs.declared.scopes.Step.the-variants as step
 use Rattle.scope.proofs.ScopeLaws.{keeps-all}
 use Rattle.parts.proofs.StepLaws.{Adder}
 use Rattle.cycle.proofs.CycleLaws.{Going, going-few, going-done, going-stops}
-use Rattle.messages.proofs.RulingLaws.{ruled-kept, ruled-refused}
+use Rattle.values.proofs.RulingLaws.{ruled-kept, ruled-refused}
 
 -- What each of the three promises of its answer r to the field f, where the cells were `cells` and are `later`.
 pub record Promised (model : Bytes) (o : Judged Walk) (cells later : List ℕ) (p : Progress) (f : Field) (r : Step) : Type 0 where

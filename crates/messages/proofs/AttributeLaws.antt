@@ -20,11 +20,11 @@ use Rattle.rules.specs.Walk.{Walk, start, Along, leaving, naming}
 use Rattle.rules.specs.Node.{badValue, body, attribute}
 use Rattle.messages.specs.Earlier.{earlierIn}
 use Rattle.messages.specs.Heads.{passing, after, attributeRules}
-use Rattle.messages.specs.Answers.{namingSays, nameField}
-use Rattle.messages.specs.declared.names.Naming.{Naming}
-use Rattle.messages.specs.declared.names.Naming.the-variants as naming-answer
+use Rattle.values.specs.Answers.{namingSays, nameField}
+use Rattle.values.specs.declared.names.Naming.{Naming}
+use Rattle.values.specs.declared.names.Naming.the-variants as naming-answer
 use Rattle.messages.proofs.Silent.{silent-rule, silent-last, silent-bind}
-use Rattle.messages.proofs.NameLaws.{empty-none, empty-some, nameSays, naming-says}
+use Rattle.values.proofs.NameLaws.{empty-none, empty-some, nameSays, naming-says}
 
 bodies-pass : (w : Walk) (l : List Field) → each (body passing) w l ≡ pass w
 unfolding each body passing leaving _>>=_

@@ -21,16 +21,16 @@ use Rattle.schema.specs.Numbers.{Model·ir-version, Model·graph, Model·opset-
 use Rattle.schema.specs.Answers.{silent}
 use Rattle.rules.specs.Header.{opsetImport, header}
 use Rattle.messages.specs.Imports.{importsIn}
-use Rattle.messages.specs.Answers.{rulingSays}
+use Rattle.values.specs.Answers.{rulingSays}
 use Rattle.messages.specs.Imported.{Outlined, rulingOf, headed, holds}
 use Rattle.messages.specs.declared.imports.Imports.{Imports}
 use Rattle.messages.specs.declared.imports.Heading.{Heading}
 use Rattle.messages.specs.declared.imports.Heading.the-variants as heading
-use Rattle.messages.specs.declared.Ruling.{Ruling}
-use Rattle.messages.specs.declared.Ruling.the-variants as ruling
+use Rattle.values.specs.declared.Ruling.{Ruling}
+use Rattle.values.specs.declared.Ruling.the-variants as ruling
 use Rattle.messages.proofs.ImportLaws.{All, imports-agree}
 use Rattle.messages.proofs.Silent.{silent-fails, silent-passes}
-use Rattle.messages.proofs.RulingLaws.{ruled-kept, ruled-refused}
+use Rattle.values.proofs.RulingLaws.{ruled-kept, ruled-refused}
 
 pub version-below : (n : ℕ) → n < 4 → false ≡ within 4 10 n
 unfolding within

@@ -35,11 +35,11 @@ use Rattle.index.specs.Listing.{Held}
 use Rattle.index.proofs.ListingLaws.{held-all, held-fewer, held-then, listed-begin}
 use Rattle.messages.specs.Imported.{Imported, ImportAdded}
 use Rattle.messages.specs.declared.imports.Imports.{Imports}
-use Rattle.messages.specs.Answers.{rulingSays}
-use Rattle.messages.specs.declared.Ruling.{Ruling}
-use Rattle.messages.specs.declared.Ruling.the-variants as ruling
+use Rattle.values.specs.Answers.{rulingSays}
+use Rattle.values.specs.declared.Ruling.{Ruling}
+use Rattle.values.specs.declared.Ruling.the-variants as ruling
 use Rattle.messages.proofs.Silent.{silent-fails, silent-passes}
-use Rattle.messages.proofs.RulingLaws.{ruled-kept, ruled-refused}
+use Rattle.values.proofs.RulingLaws.{ruled-kept, ruled-refused}
 use Rattle.rules.proofs.Matching.{each-append}
 
 -- ---- the imports of a model

@@ -1,10 +1,6 @@
 pub mod Silent
-pub mod RulingLaws
-pub mod TypeLaws
-pub mod NameLaws
 pub mod EarlierLaws
 pub mod ListedLaws
-pub mod CarrierLaws
 pub mod AttributeLaws
 pub mod NodeLaws
 pub mod ImportLaws

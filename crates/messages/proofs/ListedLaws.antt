@@ -19,7 +19,7 @@ use Rattle.index.proofs.ListingLaws.{held-all, listed-held, listed-as, same-emp
 use Rattle.messages.specs.Imports.{importOf}
 use Rattle.messages.specs.Imported.{Imported, ImportAdded}
 use Rattle.messages.specs.declared.imports.Imports.{Imports}
-use Rattle.messages.proofs.NameLaws.{empty-none, empty-some}
+use Rattle.values.proofs.NameLaws.{empty-none, empty-some}
 
 -- ---- a name that a message may lack
 

@@ -21,12 +21,12 @@ use Rattle.rules.specs.Names.{Name}
 use Rattle.rules.specs.Walk.{naming}
 use Rattle.rules.specs.Node.{nodeName}
 use Rattle.messages.specs.Imports.{importsIn}
-use Rattle.messages.specs.Answers.{namingSays, nameField}
+use Rattle.values.specs.Answers.{namingSays, nameField}
 use Rattle.messages.specs.Earlier.{earlierIn}
 use Rattle.messages.specs.Heads.{nodeHead}
-use Rattle.messages.specs.declared.names.Naming.{Naming}
-use Rattle.messages.specs.declared.names.Naming.the-variants as naming-answer
-use Rattle.messages.proofs.NameLaws.{empty-none, empty-some, nameSays, naming-says}
+use Rattle.values.specs.declared.names.Naming.{Naming}
+use Rattle.values.specs.declared.names.Naming.the-variants as naming-answer
+use Rattle.values.proofs.NameLaws.{empty-none, empty-some, nameSays, naming-says}
 use Rattle.messages.proofs.Silent.{silent-rule, silent-last}
 
 module _ (model : Bytes) (earlier : List Bytes) (m : Field) where

@@ -11,8 +11,8 @@ use Rattle.wire.specs.declared.outlines.Outline.{Outline}
 use Rattle.schema.specs.Numbers.{Model·ir-version, Model·graph, Model·opset-import, Model·functions}
 use Rattle.index.specs.Listing.{Listed, Held}
 use Rattle.messages.specs.Imports.{importOf, importsIn}
-use Rattle.messages.specs.declared.Ruling.{Ruling}
-use Rattle.messages.specs.declared.Ruling.the-variants as ruling
+use Rattle.values.specs.declared.Ruling.{Ruling}
+use Rattle.values.specs.declared.Ruling.the-variants as ruling
 use Rattle.messages.specs.declared.imports.Imports.{Imports}
 use Rattle.messages.specs.declared.imports.Heading.{Heading}
 use Rattle.messages.specs.declared.imports.Heading.the-variants as heading

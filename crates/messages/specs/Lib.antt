@@ -1,4 +1,3 @@
-pub mod Answers
 pub mod Earlier
 pub mod Imports
 pub mod Imported

@@ -4,18 +4,18 @@ ghost use Rattle.schema.specs.Numbers.{Node·attribute, Attribute·name};
 ghost use Rattle.index.specs.Listing.{Listed};
 ghost use Rattle.messages.specs.Earlier.{earlierIn};
 ghost use Rattle.messages.specs.Heads.{attributeRules};
-ghost use Rattle.messages.specs.Answers.{rulingSays};
-use crate::Ruling;
-use crate::carriers::is_bad_value;
+ghost use Rattle.values.specs.Answers.{rulingSays};
 use crate::earlier::is_listed;
-use crate::names::Naming;
-use crate::names::misnaming;
-use crate::names::read_name;
-use crate::numbers::ATTRIBUTE_NAME;
-use crate::numbers::ATTRIBUTE_REF_ATTR_NAME;
-use crate::numbers::NODE_ATTRIBUTE;
-use crate::rulings::refused;
 use index::Listing;
+use values::Naming;
+use values::Ruling;
+use values::is_bad_value;
+use values::misnaming;
+use values::numbers::ATTRIBUTE_NAME;
+use values::numbers::ATTRIBUTE_REF_ATTR_NAME;
+use values::numbers::NODE_ATTRIBUTE;
+use values::read_name;
+use values::refused;
 use wire::Field;
 
 // "Attribute: 22, 21, 31, 33, 32; then its graphs in order": all but the graphs.

@@ -1,101 +1,20 @@
-// The rules of the second walk that look at one message alone and need no scope: what the header, a type, an attribute and a node say
-// of themselves. Names that stood earlier in a list are found by a listing, or read again where they stand.
+// The rules of the second walk that look at one message and the lists that it stands in, and need no scope: those of the header, of an
+// attribute, and of the head of a node. Names that stood earlier in a list are found by a listing, or read again where they stand.
 mod attributes;
-mod carriers;
 mod earlier;
 mod headers;
 mod imports;
-mod names;
 mod nodes;
-pub mod numbers;
-mod rulings;
-mod types;
 mod wholes;
 
 pub use attributes::attribute_rules;
-pub use carriers::carrier_of;
-pub use carriers::is_body;
 pub use earlier::is_listed;
 pub use earlier::list_name;
 pub use headers::header;
 pub use imports::Heading;
 pub use imports::Imports;
 pub use imports::ruling_of;
-pub use names::Naming;
-pub use names::misnaming;
-pub use names::read_name;
 pub use nodes::node_head;
-pub use rulings::refused;
-pub use types::is_element;
-pub use types::main_type;
 pub use wholes::has;
 pub use wholes::model_outline;
 pub use wholes::whole;
-use wire::Refusal;
-
-// A rule is kept, or is the first to be broken.
-pub enum Ruling {
-    Kept,
-    Refused(Refusal),
-}
-
-// The numbers of document 01's table that the second walk refuses with.
-impl Ruling {
-    pub const TOO_DEEP: u8 = 6;
-
-    pub const MODEL_TOO_LARGE: u8 = 7;
-
-    pub const LIST_UNSOUND: u8 = 8;
-
-    pub const BAD_IR_VERSION: u8 = 10;
-
-    pub const NO_GRAPH: u8 = 11;
-
-    pub const NO_OPSET_IMPORT: u8 = 12;
-
-    pub const IMPORTED_TWICE: u8 = 13;
-
-    pub const VERSION_NOT_LISTED: u8 = 14;
-
-    pub const FUNCTIONS_PRESENT: u8 = 15;
-
-    pub const SPARSE_INITIALIZER: u8 = 16;
-
-    pub const GRAPH_NAME_EMPTY: u8 = 20;
-
-    pub const NOT_IDENTIFIER: u8 = 21;
-
-    pub const NAME_EMPTY: u8 = 22;
-
-    pub const ALREADY_VISIBLE: u8 = 23;
-
-    pub const NO_TENSOR_TYPE: u8 = 24;
-
-    pub const BAD_ELEM_TYPE: u8 = 25;
-
-    pub const BAD_DATA_TYPE: u8 = 26;
-
-    pub const OP_TYPE_EMPTY: u8 = 27;
-
-    pub const NOT_IMPORTED: u8 = 28;
-
-    pub const NODE_NAME_TWICE: u8 = 29;
-
-    pub const INPUT_NOT_VISIBLE: u8 = 30;
-
-    pub const ATTRIBUTE_TWICE: u8 = 31;
-
-    pub const BAD_VALUE: u8 = 32;
-
-    pub const REFERENCE_PRESENT: u8 = 33;
-
-    pub const NO_OUTPUT: u8 = 34;
-
-    pub const OUTPUT_NOT_VISIBLE: u8 = 35;
-
-    pub const NO_SHAPE: u8 = 37;
-
-    pub const NEGATIVE_DIM: u8 = 38;
-
-    pub const CELLS_FULL: u8 = 40;
-}

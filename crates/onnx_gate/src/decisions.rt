@@ -7,8 +7,8 @@ ghost use Rattle.gate.specs.Meaning.{meaning};
 ghost use Rattle.onnx_gate.specs.Program.{answered};
 use gate::Answer;
 use gate::check;
-use messages::Ruling;
 use report::line;
+use values::Ruling;
 use wire::Refusal;
 
 // "Its whole output is one line with a newline": the first bytes of `out`, as many as are answered.

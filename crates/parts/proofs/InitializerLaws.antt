@@ -16,13 +16,13 @@ use Rattle.rules.specs.Names.{Name, nameIn, inputsOf}
 use Rattle.rules.specs.Walk.{Walk, visible, naming, define}
 use Rattle.rules.specs.Types.{isElement}
 use Rattle.rules.specs.Graph.{isDefault, defaultOrNew}
-use Rattle.messages.proofs.NameLaws.{nameSays, naming-says}
+use Rattle.values.proofs.NameLaws.{nameSays, naming-says}
 use Rattle.messages.specs.Earlier.{earlierIn}
 use Rattle.scope.specs.Scope.{nameAt, scopeIn, walkIn, stepSays, grows, Keeps, Defaultable}
 use Rattle.parts.specs.Again.{context, initializerAgain}
-use Rattle.messages.specs.Answers.{namingSays, nameField}
-use Rattle.messages.specs.declared.names.Naming.{Naming}
-use Rattle.messages.specs.declared.names.Naming.the-variants as naming-answer
+use Rattle.values.specs.Answers.{namingSays, nameField}
+use Rattle.values.specs.declared.names.Naming.{Naming}
+use Rattle.values.specs.declared.names.Naming.the-variants as naming-answer
 use Rattle.scope.specs.declared.scopes.Progress.{Progress}
 use Rattle.scope.specs.declared.scopes.Step.{Step}
 use Rattle.scope.specs.declared.scopes.Step.the-variants as step

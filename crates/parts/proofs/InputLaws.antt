@@ -17,17 +17,17 @@ use Rattle.rules.specs.Walk.{Context, inMain, Walk, naming, define}
 use Rattle.rules.specs.Types.{declaredType}
 use Rattle.rules.specs.Graph.{input}
 use Rattle.scope.specs.Scope.{nameAt, walkIn, stepSays}
-use Rattle.messages.specs.Answers.{rulingSays, namingSays, nameField}
-use Rattle.messages.specs.declared.names.Naming.{Naming}
-use Rattle.messages.specs.declared.names.Naming.the-variants as naming-answer
-use Rattle.messages.specs.declared.Ruling.{Ruling}
-use Rattle.messages.specs.declared.Ruling.the-variants as ruling
+use Rattle.values.specs.Answers.{rulingSays, namingSays, nameField}
+use Rattle.values.specs.declared.names.Naming.{Naming}
+use Rattle.values.specs.declared.names.Naming.the-variants as naming-answer
+use Rattle.values.specs.declared.Ruling.{Ruling}
+use Rattle.values.specs.declared.Ruling.the-variants as ruling
 use Rattle.scope.specs.declared.scopes.Progress.{Progress}
 use Rattle.scope.specs.declared.scopes.Step.{Step}
 use Rattle.scope.specs.declared.scopes.Step.the-variants as step
-use Rattle.messages.proofs.NameLaws.{name-placed, nameSays, naming-says}
+use Rattle.values.proofs.NameLaws.{name-placed, nameSays, naming-says}
 use Rattle.scope.proofs.ScopeLaws.{name-there}
-use Rattle.messages.proofs.RulingLaws.{ruled-kept, ruled-refused}
+use Rattle.values.proofs.RulingLaws.{ruled-kept, ruled-refused}
 
 -- an input's rule asks of its graph only whether it is the main one
 abbrev pub plain : Bool → Context

@@ -2,8 +2,5 @@ pub mod BehindLaws
 pub mod ListsLaws
 pub mod StepLaws
 pub mod InputLaws
-pub mod OutputLaws
 pub mod InitializerLaws
 pub mod OpeningLaws
-pub mod NodeLaws
-pub mod ClosingLaws

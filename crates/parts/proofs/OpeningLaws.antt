@@ -26,18 +26,18 @@ use Rattle.rules.specs.Graph.{input, defaultOrNew}
 use Rattle.rules.proofs.Counting.{after, past, Stays, stays-output, stays-input, stays-default}
 use Rattle.scope.specs.Scope.{scopeIn, walkIn, stepSays, standing, grows, Keeps, Defaultable}
 use Rattle.parts.specs.Again.{context, graphRules, initializerAgain, opening}
-use Rattle.messages.proofs.NameLaws.{nameSays, naming-says}
+use Rattle.values.proofs.NameLaws.{nameSays, naming-says}
 use Rattle.messages.specs.Earlier.{earlierIn}
-use Rattle.messages.specs.Answers.{rulingSays, namingSays, nameField}
-use Rattle.messages.specs.declared.names.Naming.{Naming}
-use Rattle.messages.specs.declared.names.Naming.the-variants as naming-answer
-use Rattle.messages.specs.declared.Ruling.{Ruling}
-use Rattle.messages.specs.declared.Ruling.the-variants as ruling
+use Rattle.values.specs.Answers.{rulingSays, namingSays, nameField}
+use Rattle.values.specs.declared.names.Naming.{Naming}
+use Rattle.values.specs.declared.names.Naming.the-variants as naming-answer
+use Rattle.values.specs.declared.Ruling.{Ruling}
+use Rattle.values.specs.declared.Ruling.the-variants as ruling
 use Rattle.scope.specs.declared.scopes.Progress.{Progress}
 use Rattle.scope.specs.declared.scopes.Step.{Step}
 use Rattle.scope.specs.declared.scopes.Step.the-variants as step
 use Rattle.scope.proofs.ScopeLaws.{keeps-all, keeps-fewer, keeps-then}
-use Rattle.messages.proofs.RulingLaws.{ruled-kept, ruled-refused}
+use Rattle.values.proofs.RulingLaws.{ruled-kept, ruled-refused}
 
 -- ---- the rules before the inputs: n is the answer of reading the name
 

@@ -18,14 +18,7 @@ ghost use Rattle.scope.specs.Scope.{nameAt, walkIn, stepSays, grows, Keeps, Def
 ghost use Rattle.scope.specs.Recall.{Recalling, Recalled, Minded};
 ghost use Rattle.parts.specs.Again.{context, initializerAgain};
 use index::Listing;
-use messages::Naming;
-use messages::Ruling;
-use messages::is_element;
 use messages::is_listed;
-use messages::numbers::GRAPH_INITIALIZER;
-use messages::numbers::TENSOR_DATA_TYPE;
-use messages::numbers::TENSOR_NAME;
-use messages::read_name;
 use scope::Index;
 use scope::Progress;
 use scope::Step;
@@ -33,6 +26,13 @@ use scope::define;
 use scope::list;
 use scope::sees;
 use scope::stopped;
+use values::Naming;
+use values::Ruling;
+use values::is_element;
+use values::numbers::GRAPH_INITIALIZER;
+use values::numbers::TENSOR_DATA_TYPE;
+use values::numbers::TENSOR_NAME;
+use values::read_name;
 use wire::Field;
 use wire::Sought;
 

@@ -26,7 +26,7 @@ use Rattle.wire.proofs.MessageLaws.{first-read}
 use Rattle.rules.specs.Names.{Name, nameIn}
 use Rattle.rules.specs.Walk.{Walk, withName, visible, naming, define}
 use Rattle.rules.specs.Verdict.{fills}
-use Rattle.messages.proofs.NameLaws.{name-field}
+use Rattle.values.proofs.NameLaws.{name-field}
 use Rattle.scope.specs.Scope.{nameAt, scopeIn, walkIn, stepSays, Keeps}
 use Rattle.scope.specs.declared.scopes.Progress.{Progress}
 use Rattle.scope.specs.declared.scopes.Step.the-variants as step

@@ -12,8 +12,8 @@ use Rattle.wire.specs.Wire.{field}
 use Rattle.wire.specs.Message.{text, message}
 use Rattle.rules.specs.Names.{Name, inputsOf}
 use Rattle.rules.specs.Walk.{Walk, visible}
-use Rattle.messages.specs.declared.Ruling.{Ruling}
-use Rattle.messages.specs.declared.Ruling.the-variants as ruling
+use Rattle.values.specs.declared.Ruling.{Ruling}
+use Rattle.values.specs.declared.Ruling.the-variants as ruling
 use Rattle.scope.specs.declared.scopes.Progress.{Progress}
 use Rattle.scope.specs.declared.scopes.Step.{Step}
 use Rattle.scope.specs.declared.scopes.Step.the-variants as step

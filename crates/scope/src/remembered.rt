@@ -21,8 +21,8 @@ use index::known;
 use index::recall;
 use index::remember_name;
 use messages::Imports;
-use messages::Ruling;
 use messages::list_name;
+use values::Ruling;
 use wire::Field;
 use wire::same_bytes;
 

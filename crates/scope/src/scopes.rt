@@ -8,7 +8,7 @@ ghost use Rattle.wire.specs.Outcome.{refused};
 ghost use Rattle.wire.specs.Bytes.{Bytes};
 ghost use Rattle.scope.specs.Scope.{nameAt, stepSays, standing, left, grows};
 ghost use Rattle.scope.specs.declared.scopes.Progress.{Progress};
-use messages::Ruling;
+use values::Ruling;
 use wire::Cursor;
 use wire::FieldAnswer;
 use wire::Refusal;

@@ -2,7 +2,7 @@ use native.Mathlib.Omega.{arith}
 use mathlib.Core.Path.{_∙_}
 use borrow.Author.Tests.{not-true, not-false}
 use Rattle.index.proofs.ListingLaws.{held-all}
-use Rattle.messages.specs.Answers.{rulingSays}
+use Rattle.values.specs.Answers.{rulingSays}
 use Rattle.messages.specs.Imported.{rulingOf}
 use Rattle.messages.proofs.HeaderLaws.{header-version, header-graph, header-import, header-imports-refused}
 use Rattle.messages.proofs.HeaderLaws.{header-functions, header-kept, refused-heading, imported-heading, holds-as}

@@ -1,5 +1,5 @@
 use mathlib.Core.Path.{refl}
-use Rattle.messages.specs.Answers.{rulingSays}
+use Rattle.values.specs.Answers.{rulingSays}
 use Rattle.messages.specs.Imported.{rulingOf, holds}
 use Rattle.messages.proofs.headers.unheaded.Statement.{statement}
 use Rattle.messages.proofs.headers.unheaded.Tie as tie

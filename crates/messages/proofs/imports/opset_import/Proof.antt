@@ -1,6 +1,6 @@
 use mathlib.Core.Path.{_∙_}
 use borrow.Author.Tests.{not-true, not-false}
-use Rattle.messages.specs.Answers.{rulingSays}
+use Rattle.values.specs.Answers.{rulingSays}
 use Rattle.messages.proofs.ImportLaws.{import-twice, import-unlisted, import-kept}
 use borrow.Author.Needs.{needs}
 use Rattle.messages.proofs.imports.opset_import.Statement.{statement}

@@ -2,7 +2,7 @@ use Rattle.messages.proofs.HeaderLaws.{headed-same, headed-holds}
 use Prim.Native.Nat.{_-_}
 use mathlib.Core.Path.{ap, _∙_}
 use lib.ListN.{length}
-use Rattle.messages.specs.Answers.{rulingSays}
+use Rattle.values.specs.Answers.{rulingSays}
 use Rattle.messages.specs.Imported.{rulingOf, headed, holds}
 use Rattle.messages.proofs.ImportLaws.{import-falls, importing-end, importing-stops, Keeping, keeping-start, keeping-end, keeping-before, keeping-goes}
 use borrow.Author.Needs.{needs}

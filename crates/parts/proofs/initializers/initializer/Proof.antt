@@ -1,4 +1,4 @@
-use Rattle.messages.proofs.NameLaws.{named-some}
+use Rattle.values.proofs.NameLaws.{named-some}
 use Rattle.scope.proofs.RecallLaws.{recalled-none}
 use mathlib.Core.Path.{subst, _∙_}
 use Rattle.scope.specs.Scope.{stepSays, grows}

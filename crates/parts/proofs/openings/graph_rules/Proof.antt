@@ -1,5 +1,5 @@
 use mathlib.Core.Path.{_∙_}
-use Rattle.messages.specs.Answers.{rulingSays}
+use Rattle.values.specs.Answers.{rulingSays}
 use Rattle.parts.proofs.OpeningLaws.{graph-misnamed, graph-sparse, graph-ruled}
 use borrow.Author.Needs.{needs}
 use Rattle.parts.proofs.openings.graph_rules.Statement.{statement}

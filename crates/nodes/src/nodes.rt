@@ -1,0 +1,169 @@
+// What is asked of a node beside its attributes.
+ghost use mathlib.Core.Path.{_≡_};
+ghost use Prim.Native.Nat.{_^_, _<_, _≤_};
+ghost use lib.ListN.{length, drop};
+ghost use Rattle.wire.specs.Outcome.{each};
+ghost use Rattle.wire.specs.Message.{allOf, message};
+ghost use Rattle.schema.specs.Numbers.{Graph·node, Node·input, Node·name, Node·attribute, Attribute·name};
+ghost use Rattle.rules.specs.Verdict.{fills};
+ghost use Rattle.rules.specs.Node.{nodeInput};
+ghost use Rattle.index.specs.Listing.{Listed};
+ghost use Rattle.values.specs.Answers.{rulingSays};
+ghost use Rattle.messages.specs.Earlier.{earlierIn};
+ghost use Rattle.messages.specs.Imports.{importsIn};
+ghost use Rattle.messages.specs.Imported.{Imported};
+ghost use Rattle.messages.specs.Heads.{attributeRules, nodeHead};
+ghost use Rattle.scope.specs.Scope.{scopeIn, walkIn, stepSays, grows, Keeps};
+ghost use Rattle.scope.specs.Recall.{Recalling, Recalled};
+ghost use Rattle.parts.specs.Again.{nodeRules, closing};
+use crate::outputs::node_outputs;
+use index::Listing;
+use messages::attribute_rules;
+use messages::has;
+use messages::node_head;
+use rules::is_identifier;
+use scope::Index;
+use scope::Progress;
+use scope::Step;
+use scope::sees;
+use scope::stopped;
+use values::Ruling;
+use values::numbers::NODE_INPUT;
+use values::numbers::NODE_OUTPUT;
+use values::refused;
+use wire::Field;
+use wire::Sought;
+
+// "An empty input or output means "left out" and is passed over. Input: 21, 30."
+fn node_input(
+    model: &[u8],
+    cells: &[u32],
+    extra: &[u32],
+    ix: Index,
+    used: usize,
+    f: Field,
+) -> Ruling
+    requires { ⌜ Recalling (now model) ix (now cells) (now extra) ⌝ }
+    ensures { λ r. ⌜ rulingSays r ≡ nodeInput (now (model .entry)) (scopeIn (now (model .entry)) (now (cells .entry)) used) tt f ⌝ }
+{
+    let text = f.text(model);
+    if text.len() == 0 {
+        return Ruling::Kept;
+    }
+    if !is_identifier(text) {
+        return refused(Ruling::NOT_IDENTIFIER, f.place);
+    }
+    if sees(model, cells, extra, ix, used, text) {
+        return Ruling::Kept;
+    }
+    refused(Ruling::INPUT_NOT_VISIBLE, f.place)
+}
+
+fn node_inputs(
+    model: &[u8],
+    cells: &[u32],
+    extra: &[u32],
+    ix: Index,
+    used: usize,
+    node: Field,
+) -> Ruling
+    requires { ⌜ Recalling (now model) ix (now cells) (now extra) ⌝ }
+    ensures { λ r. ⌜ rulingSays r ≡ each (nodeInput (now (model .entry)) (scopeIn (now (model .entry)) (now (cells .entry)) used)) tt (allOf Node·input (message (now (model .entry)) node)) ⌝ }
+{
+    let mut c = node.contents();
+    loop {
+        let sought = c.next_of(model, NODE_INPUT);
+        let Sought::Found(f, next) = sought else {
+            return Ruling::Kept;
+        };
+        let ruling = node_input(model, cells, extra, ix, used, f);
+        let Ruling::Kept = ruling else {
+            return ruling;
+        };
+        c = next;
+    }
+}
+
+// "op_type (27, 21); 28; a nonempty node name (21, 29)", with what the extra cells hold of imports and names.
+fn head(model: &[u8], extra: &[u32], ix: Index, l: Listing, graph: Field, f: Field) -> Ruling
+    requires { ⌜ ix .split ≤ length (now extra) ⌝ }
+    requires { ⌜ Imported (now model) (ix .seed) (drop (ix .split) (now extra)) (ix .imports) (importsIn (now model)) ⌝ }
+    requires { ⌜ Listed (now model) (ix .seed) (drop (ix .split) (now extra)) l (earlierIn (now model) Graph·node Node·name graph f) ⌝ }
+    ensures { λ r. ⌜ rulingSays r ≡ nodeHead (now (model .entry)) graph f ⌝ }
+{
+    let split = ix.split;
+    let imports = ix.imports;
+    node_head(model, &extra[split..], ix.seed, imports, l, graph, f)
+}
+
+// "op_type (27, 21); 28; a nonempty node name (21, 29); inputs"
+pub fn node_rules(
+    model: &[u8],
+    cells: &[u32],
+    extra: &[u32],
+    ix: Index,
+    l: Listing,
+    used: usize,
+    graph: Field,
+    f: Field,
+) -> Ruling
+    requires { ⌜ Recalling (now model) ix (now cells) (now extra) ⌝ }
+    requires { ⌜ Imported (now model) (ix .seed) (drop (ix .split) (now extra)) (ix .imports) (importsIn (now model)) ⌝ }
+    requires { ⌜ Listed (now model) (ix .seed) (drop (ix .split) (now extra)) l (earlierIn (now model) Graph·node Node·name graph f) ⌝ }
+    ensures { λ r. ⌜ rulingSays r ≡ nodeRules (now (model .entry)) graph (scopeIn (now (model .entry)) (now (cells .entry)) used) f ⌝ }
+{
+    let ruling = head(model, extra, ix, l, graph, f);
+    let Ruling::Kept = ruling else {
+        return ruling;
+    };
+    node_inputs(model, cells, extra, ix, used, f)
+}
+
+// "22, 21, 31, 33, 32" of an attribute, with what the extra cells hold of the names before it.
+pub fn attribute_head(
+    model: &[u8],
+    extra: &[u32],
+    ix: Index,
+    l: Listing,
+    node: Field,
+    a: Field,
+) -> Ruling
+    requires { ⌜ ix .split ≤ length (now extra) ⌝ }
+    requires { ⌜ Listed (now model) (ix .seed) (drop (ix .split) (now extra)) l (earlierIn (now model) Node·attribute Attribute·name node a) ⌝ }
+    ensures { λ r. ⌜ rulingSays r ≡ attributeRules (now (model .entry)) node a ⌝ }
+{
+    let split = ix.split;
+    attribute_rules(model, &extra[split..], ix.seed, l, node, a)
+}
+
+// "34; outputs", and the node is counted.
+pub fn closing(
+    model: &[u8],
+    cells: &mut [u32],
+    extra: &mut [u32],
+    ix: Index,
+    p: Progress,
+    f: Field,
+) -> Step
+    requires { ⌜ length (now model) < 2 ^ 32 ⌝ }
+    requires { ⌜ f .next ≤ length (now model) ⌝ }
+    requires { ⌜ p .nodes < 2 ^ 32 ⌝ }
+    requires { ⌜ Recalling (now model) ix (now cells) (now extra) ⌝ }
+    ensures answer { λ r. ⌜ stepSays (now (model .entry)) (now (cells .exit)) r ≡ closing (now (model .entry)) (fills (length (now (cells .entry)))) (walkIn (now (model .entry)) (now (cells .entry)) p) f ⌝ }
+    ensures grown { λ r. ⌜ grows p r ⌝ }
+    ensures kept { λ _. ⌜ Keeps (p .used) (now (cells .entry)) (now (cells .exit)) ⌝ }
+    ensures memory { λ _. ⌜ Recalled (now (model .entry)) ix (now (cells .exit)) (now (extra .entry)) (now (extra .exit)) ⌝ }
+{
+    if !has(model, f, NODE_OUTPUT) {
+        return stopped(Ruling::NO_OUTPUT, f.place);
+    }
+    let step = node_outputs(model, cells, extra, ix, p, f);
+    let Step::Went(q) = step else {
+        return step;
+    };
+    Step::Went(Progress {
+        used: q.used,
+        nodes: q.nodes + 1,
+        most: q.most,
+    })
+}

@@ -1,0 +1,4 @@
+pub mod RulingLaws
+pub mod TypeLaws
+pub mod NameLaws
+pub mod CarrierLaws

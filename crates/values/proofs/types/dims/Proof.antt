@@ -1,0 +1,71 @@
+use Prim.Native.Nat.{_-_}
+use mathlib.Core.Path.{sym, _∙_}
+use Rattle.wire.specs.Outcome.{each}
+use Rattle.wire.proofs.Along.{allFrom, Along, along-start, along-contents, along-done, along-falls}
+use Rattle.schema.specs.Numbers.{Shape·dim}
+use Rattle.rules.specs.Types.{dim}
+use Rattle.values.specs.Answers.{rulingSays}
+use Rattle.values.proofs.RulingLaws.{rule-stops, rule-goes}
+use borrow.Author.Needs.{needs}
+use Rattle.values.proofs.types.dims.Statement.{statement}
+use Rattle.values.proofs.types.dims.Tie as tie
+
+abbrev Inv-loop : tie.InvT-loop
+Inv-loop model c₀ c = Along model Shape·dim (c₀ .end) (dim model) (each (dim model) tt (allFrom model Shape·dim (c₀ .end) (c₀ .at))) tt c
+
+abbrev μ-loop : tie.MeasureT-loop
+μ-loop model c₀ c = c₀ .end - c .at
+
+loop-holds : tie.Need-loop-holds Inv-loop μ-loop
+loop-holds c = along-start _ _ _ _ _
+
+returns : tie.Need-returns Inv-loop μ-loop
+unfolding rulingSays
+returns c =
+    let c2 = c .before .before in
+    let loop = c2 .before in
+    let c4 = loop .before in
+    sym (along-done (loop .loop .inv) (c2 .next-of .ensures) (c .enum-told .given .1)) ∙ along-contents _ _ _ _ _ (c4 .contents .ensures)
+
+returns-2 : tie.Need-returns-2 Inv-loop μ-loop
+returns-2 c =
+    let c2 = c .before .before in
+    let c4 = c2 .before .before in
+    let c6 = c4 .before .before in
+    let loop = c6 .before in
+    let c8 = loop .before in
+    rule-stops (loop .loop .inv) (c6 .next-of .ensures) (c4 .sought .given .1) (c2 .dim .ensures) (c .enum-told3 .given .1) ∙ along-contents _ _ _ _ _ (c8 .contents .ensures)
+
+loop-less : tie.Need-loop-less Inv-loop μ-loop
+loop-less c =
+    let c4 = c .before .before .before .before in
+    let c6 = c4 .before .before in
+    let loop = c6 .before in
+    along-falls (loop .loop .inv) (c6 .next-of .ensures) (c4 .sought .given .1)
+
+loop-again : tie.Need-loop-again Inv-loop μ-loop
+loop-again c =
+    let c2 = c .before .before in
+    let c4 = c2 .before .before in
+    let c6 = c4 .before .before in
+    let loop = c6 .before in
+    rule-goes (loop .loop .inv) (c6 .next-of .ensures) (c4 .sought .given .1) (c2 .dim .ensures) (c .enum-told2 .given .1)
+
+pub dims-spec : {M : Type 1} → statement M
+dims-spec =
+    tie.close
+    (tie.spec
+    Inv-loop
+    μ-loop
+    (λ c κs. search needs)
+    loop-holds
+    (λ c κs. search needs)
+    (λ c. search needs)
+    (λ c. search needs)
+    returns
+    (λ c κs. search needs)
+    (λ c. search needs)
+    (λ c. search needs)
+    returns-2
+    loop-less
+    loop-again)
