@@ -94,7 +94,11 @@ module _ (model : Bytes) where
   walk-gapless (suc n) kind depth slots end pos h l e = go (leb end pos) (leb-true end pos) e (λ more p i j w. walk-gapless n kind depth more end p i j w)
     where
       go : (b : Bool) → (b ≡ true → end ≤ pos)
-          → elim b as (λ _. Rule) [ true ↦ pass tt | false ↦ turn model (λ k d e p. walk model n k d [] e p) (λ more p. walk model n kind depth more end p) kind depth slots end pos ] ≡ pass tt
+          → elim b as (λ _. Rule) [
+            | true ↦ pass tt
+            | false ↦ turn model (λ k d e p. walk model n k d [] e p) (λ more p. walk model n kind depth more end p) kind depth
+                slots end pos
+          ] ≡ pass tt
           → ((more : List ℕ) (p : ℕ) → end ≤ p + n → p ≤ end → walk model n kind depth more end p ≡ pass tt → Gapless p end (fieldsFrom model n end p))
           → Gapless pos end (elim b [ true ↦ [] | false ↦ elim (field model end pos) [ pass f ↦ f ∷ fieldsFrom model n end (f .next) | fail r ↦ [] ] ])
       go true g w ih = let done = g refl in omega arith
@@ -114,6 +118,7 @@ module _ (model : Bytes) where
   unfolding innermost message
   opened-gapless kind depth f l w [] o = walked-gapless kind depth (f .next) (f .start) l w
   opened-gapless kind depth f l w (g ∷ inner) (m, (k, e, o)) =
-      let inside = all-member (Fits (f .start) (f .next)) (fields model (f .next) (f .start)) (ordered-all (f .start) (f .next) (fields model (f .next) (f .start)) (fields-ordered model (f .next) (f .start))) m in
+      let inside = all-member (Fits (f .start) (f .next)) (fields model (f .next) (f .start))
+      (ordered-all (f .start) (f .next) (fields model (f .next) (f .start)) (fields-ordered model (f .next) (f .start))) m in
       let sound : If (Sound depth g) (some k) = rw e at (all-member (Opens kind depth) (fields model (f .next) (f .start)) (walked-opens kind depth (f .next) (f .start) w) m) in
       opened-gapless k (deeper k depth) g (inside .2) (sound .1) inner o
