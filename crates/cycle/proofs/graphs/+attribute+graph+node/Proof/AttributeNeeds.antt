@@ -16,9 +16,9 @@ use Rattle.cycle.proofs.GraphLaws.{Nested, attribute-stops, attribute-p
 use Rattle.cycle.proofs.graphs.attribute.Reads as attribute
 use Rattle.cycle.proofs.graphs.+attribute+graph+node.Lts-attribute as attribute-lts
 use Rattle.cycle.proofs.graphs.graph.Reads as graph
-use Rattle.parts.proofs.attribute_head.Reads as attribute-head-reads
-use Rattle.messages.proofs.carrier_of.Reads as carrier-of-reads
-use Rattle.messages.proofs.is_body.Reads as is-body-reads
+use Rattle.nodes.proofs.attribute_head.Reads as attribute-head-reads
+use Rattle.values.proofs.carrier_of.Reads as carrier-of-reads
+use Rattle.values.proofs.is_body.Reads as is-body-reads
 use Rattle.scope.proofs.leaving.Reads as leaving-reads
 use Rattle.scope.proofs.standing.Reads as standing-reads
 use Rattle.wire.proofs.Cursor.next_of.Reads as next-of-reads

@@ -23,7 +23,7 @@ use Rattle.cycle.proofs.graphs.graph.Reads as graph
 use Rattle.cycle.proofs.graphs.+attribute+graph+node.Lts-graph as graph-lts
 use Rattle.cycle.proofs.graphs.node.Reads as node
 use Rattle.parts.proofs.opening.Reads as opening-reads
-use Rattle.parts.proofs.graph_outputs.Reads as graph-outputs-reads
+use Rattle.nodes.proofs.graph_outputs.Reads as graph-outputs-reads
 use Rattle.scope.proofs.list.Reads as list-reads
 use Rattle.scope.proofs.standing.Reads as standing-reads
 use Rattle.scope.proofs.stopped.Reads as stopped-reads

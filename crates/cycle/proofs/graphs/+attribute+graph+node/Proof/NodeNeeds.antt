@@ -19,8 +19,8 @@ use Rattle.cycle.proofs.GraphLaws.{attributes-stop, attributes-done, no
 use Rattle.cycle.proofs.graphs.attribute.Reads as attribute
 use Rattle.cycle.proofs.graphs.node.Reads as node
 use Rattle.cycle.proofs.graphs.+attribute+graph+node.Lts-node as node-lts
-use Rattle.parts.proofs.closing.Reads as closing-reads
-use Rattle.parts.proofs.node_rules.Reads as node-rules-reads
+use Rattle.nodes.proofs.closing.Reads as closing-reads
+use Rattle.nodes.proofs.node_rules.Reads as node-rules-reads
 use Rattle.scope.proofs.list.Reads as list-reads
 use Rattle.scope.proofs.standing.Reads as standing-reads
 use Rattle.wire.proofs.Cursor.next_of.Reads as next-of-reads
