@@ -1,0 +1,40 @@
+//! `onnx-gate pass`: the bytes that were checked, for whoever would else read the file a second time.
+use crate::args::Pass;
+use crate::explain::Given;
+use crate::judge::Judge;
+use crate::output::{self, Output};
+use crate::{complain, input, WRONG};
+use std::io::{self, IsTerminal, Write};
+
+/// The verdict goes to standard error. Not a byte goes to standard output before the model is accepted.
+pub fn run(pass: &Pass) -> io::Result<u8> {
+    let mut out = output::standard()?;
+    if out.is_terminal() {
+        complain("standard output is a terminal: send the model to a file or a program");
+        return Ok(WRONG);
+    }
+    let judge = match Judge::new(&pass.terms) {
+        Ok(judge) => judge,
+        Err(why) => {
+            complain(&why);
+            return Ok(WRONG);
+        }
+    };
+    let mut verdict = Output::new(output::errors()?, false, false);
+    let file = pass.model.as_os_str();
+    match input::read(file).and_then(|model| judge.check(file, &model).map(|checked| (model, checked))) {
+        Err(why) => verdict.not_judged(file, &why)?,
+        Ok((model, checked)) => match checked.answer {
+            Ok(accepted) => {
+                verdict.accepted(file, accepted)?;
+                out.write_all(&model)?;
+            }
+            Err(refusal) => verdict.refused(
+                file,
+                refusal,
+                &Given { model: &model, operators: &judge.list, cells: checked.cells },
+            )?,
+        },
+    }
+    Ok(verdict.status())
+}
