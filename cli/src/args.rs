@@ -73,6 +73,7 @@ pub fn parse(words: impl Iterator<Item = OsString>) -> Result<Command, String> {
         return Ok(Command::Say(text));
     }
     let grammar = match command.to_str() {
+        Some("help") if rest.is_empty() => return Ok(Command::Say(help::MAIN)),
         Some("check") => CHECK,
         Some("pass") => PASS,
         Some("operators") => OPERATORS,
