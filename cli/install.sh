@@ -14,7 +14,7 @@ if [ $# -ne 1 ] || [[ ${1-} == -* || -z ${1-} ]]; then
     exit 2
 fi
 
-work= whole=no
+work='' whole=no
 ended() {
     rm -rf "$work"
     [ $whole = yes ] && return
@@ -26,7 +26,7 @@ work=$(mktemp -d)
 
 # put MODE FILE NAME: copies a file to NAME below the prefix
 put() {
-    install -D -m "$1" -- "$2" "$prefix/$3"
+    install -DT -m "$1" -- "$2" "$prefix/$3"
     printf 'installed %q\n' "$prefix/$3"
 }
 
@@ -41,16 +41,16 @@ print(os.path.relpath(path, prefix))
 END
 }
 
-# It finds its own place, so that no prefix has to be escaped in it.
+# The prefix is escaped as for a shell: pkg-config takes flags apart as a shell does.
 pkg_config() {
     cat <<END
-prefix=\${pcfiledir}/../..
+prefix=$(printf '%s' "$prefix" | sed 's/[^A-Za-z0-9/._@%+,:=\x80-\xff-]/\\&/g')
 
 Name: onnx_gate
 Description: A proved check in front of an ONNX runtime
 Version: $version
-Cflags: -I"\${prefix}/include"
-Libs: -L"\${prefix}/lib" -lonnx_gate
+Cflags: -I\${prefix}/include
+Libs: -L\${prefix}/lib -lonnx_gate
 END
 }
 
