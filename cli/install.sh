@@ -41,6 +41,17 @@ print(os.path.relpath(path, prefix))
 END
 }
 
+# The module is a file or a folder of files, and loads the library from beside them.
+put_python() {
+    local name beside=$modules
+    cd "$root/bindings/python"
+    if [ -d onnx_gate ]; then beside=$modules/onnx_gate; fi
+    for name in onnx_gate{.py,/*.py,/py.typed}; do
+        [ ! -e "$name" ] || put 644 "$name" "$modules/$name"
+    done
+    put 755 "$work/$soname" "$beside/libonnx_gate.so"
+}
+
 # The prefix is escaped as for a shell: pkg-config takes flags apart as a shell does.
 pkg_config() {
     cat <<END
@@ -70,9 +81,7 @@ put 644 "$archive" lib/libonnx_gate.a
 put 755 "$work/$soname" "lib/$soname"
 ln -sfT "$soname" "$prefix/lib/libonnx_gate.so"
 put 644 "$work/onnx_gate.pc" lib/pkgconfig/onnx_gate.pc
-put 644 "$root/bindings/python/onnx_gate.py" "$modules/onnx_gate.py"
-# the module loads the library from beside itself
-put 755 "$work/$soname" "$modules/libonnx_gate.so"
+put_python
 
 "$prefix/bin/onnx-gate" --version
 env -u ONNX_GATE_LIB python3 -I -B -c 'import sys; sys.path.insert(0, sys.argv[1]); import onnx_gate' "$prefix/$modules"

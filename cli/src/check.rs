@@ -1,7 +1,7 @@
 //! `onnx-gate check`.
 use crate::args::Check;
 use crate::explain::Given;
-use crate::folders::{self, Found, Source};
+use crate::folders::{self, Found};
 use crate::judge::Judge;
 use crate::output::{self, Output};
 use crate::{complain, input, text, WRONG};
@@ -23,7 +23,7 @@ pub fn run(check: &Check) -> io::Result<u8> {
         }
         one(&judge, found, progress, &mut output)?;
     }
-    if check.models.len() > 1 || models.iter().any(|found| !matches!(found.source, Source::Named)) {
+    if !matches!(models.as_slice(), [Found { file, fault: None }] if *file == check.models[0]) {
         output.counts()?;
     }
     Ok(output.status())
@@ -41,11 +41,7 @@ fn without_list(check: &Check, why: &str, output: &mut Output) -> io::Result<u8>
 
 fn one(judge: &Judge, found: &Found, progress: bool, output: &mut Output) -> io::Result<()> {
     let file = found.file.as_os_str();
-    let read = match &found.source {
-        Source::Named => input::read(file),
-        Source::InFolder => input::read_regular(file.as_ref()),
-        Source::Nothing(why) => Err(why.clone()),
-    };
+    let read = found.fault.clone().map_or_else(|| input::read(file), Err);
     let checked = read.and_then(|model| judge.check(file, &model).map(|checked| (model, checked)));
     if progress {
         over("");

@@ -6,19 +6,11 @@ use std::io;
 use std::os::unix::ffi::OsStrExt;
 use std::path::Path;
 
+/// A file to be read, or why there is nothing to read.
 #[derive(Debug, PartialEq, Eq)]
 pub struct Found {
     pub file: OsString,
-    pub source: Source,
-}
-
-#[derive(Debug, PartialEq, Eq)]
-pub enum Source {
-    /// On the command line: it may be a pipe, or `-`.
-    Named,
-    InFolder,
-    /// Not a model, though one was to be expected there, and why.
-    Nothing(String),
+    pub fault: Option<String>,
 }
 
 /// All models, in the order of the words, and by name within a folder.
@@ -27,34 +19,30 @@ pub fn find(words: &[OsString]) -> Vec<Found> {
     for word in words {
         let path = Path::new(word);
         if word == "-" || !path.is_dir() {
-            found.push(Found { file: word.clone(), source: Source::Named });
+            found.push(Found { file: word.clone(), fault: None });
             continue;
         }
         let before = found.len();
         look_into(path, &mut found);
         if found.len() == before {
-            found.push(nothing(path, "holds no .onnx file; nothing was checked".into()));
+            found.push(Found { file: word.clone(), fault: Some("holds no .onnx file; nothing was checked".into()) });
         }
     }
     found
-}
-
-fn nothing(path: &Path, why: String) -> Found {
-    Found { file: path.into(), source: Source::Nothing(why) }
 }
 
 /// Adds every model below a folder, and every folder that cannot be looked into.
 fn look_into(folder: &Path, found: &mut Vec<Found>) {
     let entries = match entries(folder) {
         Ok(entries) => entries,
-        Err(why) => return found.push(nothing(folder, input::plain(why))),
+        Err(why) => return found.push(Found { file: folder.into(), fault: Some(input::plain(why)) }),
     };
     for (name, kind) in entries {
         let path = folder.join(&name);
         if kind.is_dir() {
             look_into(&path, found);
         } else if is_model_name(&name) {
-            found.push(Found { file: path.into(), source: Source::InFolder });
+            found.push(Found { file: path.into(), fault: None });
         } else if kind.is_symlink() && path.is_dir() {
             // a link may lead back here
             complain(&format!("{}: is a link to a folder, and not followed", text::file(path.as_os_str())));
@@ -90,6 +78,6 @@ mod tests {
     #[test]
     fn what_is_no_folder_is_named() {
         let found = find(&["-".into(), "/no/such".into(), "/dev/null".into()]);
-        assert!(found.iter().all(|f| f.source == Source::Named) && found.len() == 3);
+        assert!(found.iter().all(|f| f.fault.is_none()) && found.len() == 3);
     }
 }

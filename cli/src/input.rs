@@ -1,9 +1,9 @@
 //! Reading files, never more of one than the library needs to see.
+use crate::folders::is_model_name;
 use std::ffi::OsStr;
-use std::fs::{File, OpenOptions};
+use std::fs::{File, Metadata, OpenOptions};
 use std::io::{self, Read};
 use std::os::unix::fs::OpenOptionsExt;
-use std::path::Path;
 
 /// One byte more than the largest model: from it on the library says 7, whatever follows.
 pub const MOST: u64 = onnx_gate::LARGEST_MODEL as u64 + 1;
@@ -16,6 +16,9 @@ pub fn read(name: &OsStr) -> Result<Vec<u8>, String> {
     if name == "-" {
         return start_of(io::stdin().lock(), 0).map_err(plain);
     }
+    if is_model_name(name) {
+        return read_regular(name);
+    }
     let file = File::open(name).map_err(plain)?;
     let about = file.metadata().map_err(plain)?;
     if about.is_dir() {
@@ -24,17 +27,18 @@ pub fn read(name: &OsStr) -> Result<Vec<u8>, String> {
     start_of(file, about.len()).map_err(plain)
 }
 
-/// The same of a file that nobody named, and that must not be waited for: a fifo or a device is not read.
-pub fn read_regular(path: &Path) -> Result<Vec<u8>, String> {
-    regular(&std::fs::metadata(path).map_err(plain)?)?;
-    let file = OpenOptions::new().read(true).custom_flags(O_NONBLOCK).open(path).map_err(plain)?;
+/// A fifo or a device with the name of a model, which a shell or a folder may have given, is not read: it could be waited
+/// for without end.
+fn read_regular(name: &OsStr) -> Result<Vec<u8>, String> {
+    regular(&std::fs::metadata(name).map_err(plain)?)?;
+    let file = OpenOptions::new().read(true).custom_flags(O_NONBLOCK).open(name).map_err(plain)?;
     // asked again, since another file may have taken its place
     let about = file.metadata().map_err(plain)?;
     regular(&about)?;
     start_of(file, about.len()).map_err(plain)
 }
 
-fn regular(about: &std::fs::Metadata) -> Result<(), String> {
+fn regular(about: &Metadata) -> Result<(), String> {
     if about.is_file() {
         Ok(())
     } else {
@@ -82,7 +86,7 @@ mod tests {
     fn what_is_no_file() {
         assert_eq!(read(OsStr::new("/")), Err("is a directory".into()));
         assert_eq!(read(OsStr::new("/no/such")), Err("no such file".into()));
-        assert_eq!(read_regular(Path::new("/no/such")), Err("no such file".into()));
-        assert_eq!(read_regular(Path::new("/dev/zero")), Err("is not a regular file".into()));
+        assert_eq!(read(OsStr::new("/no/such.onnx")), Err("no such file".into()));
+        assert_eq!(read_regular(OsStr::new("/dev/zero")), Err("is not a regular file".into()));
     }
 }

@@ -38,6 +38,8 @@ pub fn complain(message: &str) {
 }
 
 fn main() -> ExitCode {
+    // what a mistake in this command says of itself may quote a model, too
+    std::panic::set_hook(Box::new(|why| complain(&why.to_string())));
     let command = match args::parse(std::env::args_os().skip(1)) {
         Ok(command) => command,
         Err(why) => {

@@ -173,5 +173,12 @@ said() {
     try 0 ' 1  past-end*40  cells-full*65  too-few-extra*' '' rules
     try 0 'Prints every refusal number*65 is for programs*' '' rules --help
     run "$gate" rules >"$work/rules"
-    same "the rules in Python" "$(script same_rules "$work/rules" "$root/bindings/python/onnx_gate.py")" "same"
+    same "the rules in Python" "$(script same_rules "$work/rules" "$(grep -rl '^RULES = {' "$root/bindings/python")")" "same"
+    same "versions" "$(versions)" "$(run "$gate" --version | cut -d' ' -f2)"
+}
+
+# The version as each part says it, where it does.
+versions() {
+    grep -rhE '^(version|__version__|#define ONNX_GATE_VERSION) ' "$root"/{cli/Cargo.toml,bindings/{rust/Cargo.toml,c,python}} |
+        cut -d'"' -f2 | sort -u
 }

@@ -36,7 +36,11 @@ what_is_no_model() {
     try 2 'models/good.onnx: accepted*models/inner.onnx/x.onnx: accepted*2 accepted, 0 refused, 4 not judged' \
         '*device.onnx: is not a regular file*fifo.onnx: is not a regular file*folder.onnx: is not a regular file*gone.onnx: no such file' \
         check models
+    try 2 '' 'onnx-gate: models/fifo.onnx: is not a regular file' check models/fifo.onnx
+    try 2 '' 'onnx-gate: models/fifo.onnx: is not a regular file' pass models/fifo.onnx
     try 2 '' 'onnx-gate: models: is a directory' pass models
+    # shellcheck disable=SC2016
+    expect 0 '/dev/fd/*: accepted*' '' bash -c '"$1" check <(cat "$2")' - "$gate" "$good"
     rm models/*.onnx 2>/dev/null
     mkdir models/closed && chmod 0 models/closed
     if ! ls models/closed >/dev/null 2>&1; then

@@ -9,7 +9,7 @@ test_gate() {
     cp "$root/target/staticlib/libgate_c.a" "$copy/target/staticlib"
     touch "$copy/target/staticlib/libgate_c.a"
     printf '#!/bin/sh\necho rt is not to be called\nexit 1\n' >bin/rt && chmod +x bin/rt
-    PATH=$PWD/bin:$PATH
+    local PATH=$PWD/bin:$PATH
     ln -s "$copy/gate" "in between/first" && ln -s "in between/first" linked
     cp "$good" good.onnx && cp "$refused" refused.onnx
     built_in_any_environment
@@ -22,7 +22,7 @@ test_gate() {
 copied_rust() {
     mkdir "$copy/cli" "$copy/bindings/rust"
     cp -r "$root"/cli/{src,tests,Cargo.toml,Cargo.lock,install.sh} "$copy/cli"
-    cp -r "$root"/bindings/rust/{src,build.rs,Cargo.toml,Cargo.lock} "$copy/bindings/rust"
+    cp -r "$root"/bindings/rust/{src,*.rs,Cargo.toml,Cargo.lock} "$copy/bindings/rust"
     cp -r "$root"/bindings/{c,python} "$copy/bindings"
 }
 
@@ -51,6 +51,7 @@ commands() {
     expect 2 '' '*' ./linked --help good.onnx
     expect 2 '' '*no such file' ./linked ''
     expect 2 '' 'gate: usage*' ./linked install
+    expect 0 '*installed *onnx-gate [0-9]*' '' ./linked install "a prefix"
     expect 0 '*35 refused, 0 not judged' '*these were the examples*' ./linked
     : >rules && ln -s nowhere check
     expect 2 '' 'gate: rules is a command, and a file here as well: for the file write ./rules*' ./linked rules
@@ -86,7 +87,7 @@ stale_library() {
     expect 0 '*: accepted*' 'gate: proving the library*five minutes on two cores, once' ./linked good.onnx
     expect 0 '*: accepted*' '' ./linked good.onnx
     # a source that changes while it is proved is proved again
-    printf '#!/bin/sh\ntouch crates/gate/src/checks.rt\n' >bin/rt && touch "$copy/crates.txt"
+    printf '#!/bin/sh\nsleep 0.1\ntouch crates/gate/src/checks.rt\n' >bin/rt && touch "$copy/crates.txt"
     expect 0 '*: accepted*' 'gate: proving*' ./linked good.onnx
     expect 0 '*: accepted*' 'gate: proving*' ./linked good.onnx
     printf '#!/bin/sh\nrm -f target/staticlib/libgate_c.a\n' >bin/rt && touch "$copy/crates.txt"

@@ -3,14 +3,14 @@
 
 test_install() {
     cp "$root/bindings/c/example.c" . && cp "$good" good.onnx
-    expect 0 '*installed *bin/onnx-gate*onnx-gate [0-9]*' '' "$root/gate" install "the prefix"
+    expect 0 '*installed *bin/onnx-gate*onnx-gate [0-9]*' '' "$root/cli/install.sh" "the prefix"
     prefix=$PWD/the\ prefix
     expect 0 'good.onnx: accepted*' '' "$prefix/bin/onnx-gate" check good.onnx
     from_c
     from_python
     what_fails
     # again, over what is there
-    expect 0 '*' '' "$root/gate" install "the prefix"
+    expect 0 '*' '' "$root/cli/install.sh" "the prefix"
 }
 
 from_c() {
@@ -35,12 +35,12 @@ print(onnx_gate.check(open("good.onnx", "rb").read(), operators))'
 }
 
 what_fails() {
-    expect 2 '' 'gate: usage*' "$root/gate" install
-    expect 2 '' 'gate: usage*' "$root/gate" install ''
-    expect 2 '' 'gate: usage*' "$root/gate" install --help
-    expect 2 '' 'gate: usage*' "$root/gate" install a b
-    expect 2 '' '*gate: not everything was installed*' "$root/gate" install good.onnx/prefix
-    expect 2 '' '*gate: not everything was installed*' env CC=false "$root/gate" install other
+    expect 2 '' 'gate: usage*' "$root/cli/install.sh"
+    expect 2 '' 'gate: usage*' "$root/cli/install.sh" ''
+    expect 2 '' 'gate: usage*' "$root/cli/install.sh" --help
+    expect 2 '' 'gate: usage*' "$root/cli/install.sh" a b
+    expect 2 '' '*gate: not everything was installed*' "$root/cli/install.sh" good.onnx/prefix
+    expect 2 '' '*gate: not everything was installed*' env CC=false "$root/cli/install.sh" other
     mkdir -p third/include/onnx_gate.h/in-the-way
-    expect 2 '*' '*gate: not everything was installed*' "$root/gate" install third
+    expect 2 '*' '*gate: not everything was installed*' "$root/cli/install.sh" third
 }
