@@ -27,7 +27,7 @@ from_c() {
 
 from_python() {
     local folder
-    folder=$(dirname "$prefix"/lib/python3*/*-packages/onnx_gate.py)
+    folder=$(dirname "$prefix"/lib/python3*/*-packages/onnx_gate*)
     expect 0 'accepted nodes 2 names 4' '' env PYTHONPATH="$folder" python3 -c '
 import onnx_gate
 operators = onnx_gate.operators([("ai.onnx", 7, 21)])
