@@ -5,7 +5,7 @@ use crate::schema::{Holds, Kind};
 use crate::wire;
 use onnx_gate::Refusal;
 use std::ops::Range;
-use std::panic::catch_unwind;
+use std::panic::{catch_unwind, UnwindSafe};
 
 /// How many bytes are shown before the place, and in all.
 const BEFORE: usize = 4;
@@ -39,23 +39,21 @@ pub struct Given<'a> {
 /// More memory than any explanation takes: it shows names cut, and nothing in it grows with the model.
 const ROOM: usize = 4 << 20;
 
-/// What can be said about a refusal. That no memory is left, or that the code below has a mistake, must cost neither this
-/// verdict nor that of the next file.
+/// What can be said about a refusal, or one line why nothing can.
 pub fn explain<'a>(given: &Given<'a>, refusal: Refusal) -> Explanation<'a> {
-    let none = |why: &str| Explanation { notes: vec![format!("no explanation: {why}")], ..Explanation::default() };
-    if !room(ROOM) {
-        return none("there is no memory for one");
-    }
-    catch_unwind(|| found(given, refusal)).unwrap_or_else(|_| none("a mistake in this command"))
+    let none = |why| Explanation { notes: vec![format!("no explanation: {why}")], ..Explanation::default() };
+    guarded(ROOM, || found(given, refusal)).unwrap_or_else(none)
 }
 
-/// Whether so much memory can be had. An allocation that fails later would end the process.
-fn room(size: usize) -> bool {
+/// What `find` finds. That no memory is left, or that it has a mistake, must cost neither this verdict nor the next. So
+/// memory is asked for before: an allocation that fails would end the process.
+fn guarded<T>(room: usize, find: impl FnOnce() -> T + UnwindSafe) -> Result<T, &'static str> {
     let mut bytes = Vec::<u8>::new();
-    let had = bytes.try_reserve_exact(size).is_ok();
+    let had = bytes.try_reserve_exact(room);
     // or the compiler would leave it out
-    std::hint::black_box(&bytes);
-    had
+    drop(std::hint::black_box(bytes));
+    had.map_err(|_| "there is no memory for one")?;
+    catch_unwind(find).map_err(|_| "a mistake in this command")
 }
 
 fn found<'a>(given: &Given<'a>, refusal: Refusal) -> Explanation<'a> {
@@ -151,8 +149,10 @@ mod tests {
     }
 
     #[test]
-    fn memory_is_asked_for() {
-        assert!(room(ROOM) && !room(isize::MAX as usize));
+    fn nothing_that_fails_here_goes_further() {
+        assert_eq!(guarded(ROOM, || 7), Ok(7));
+        assert_eq!(guarded(isize::MAX as usize, || 7), Err("there is no memory for one"));
+        assert_eq!(guarded::<()>(ROOM, || panic!("as a test")), Err("a mistake in this command"));
     }
 
     /// Any number at any place of any bytes: an explanation never fails.
