@@ -24,8 +24,8 @@ same() { if [ "$2" = "$3" ]; then ok; else bad "$1: expected <$3>, got <$2>"; fi
 # Nothing may hang: a command that does is ended, with 124.
 run() { timeout 60 "$@"; }
 # "${within[@]}" KILOBYTES WORDS...: with no more memory than that
-# shellcheck disable=SC2016
-export within=(bash -c 'ulimit -v "$0" && exec "$@"')
+# shellcheck disable=SC2016,SC2034
+within=(bash -c 'ulimit -v "$0" && exec "$@"')
 script() { run python3 "$root/cli/tests/$1.py" "${@:2}" 2>&1; }
 
 # expect STATUS OUT ERR WORDS...: runs the words; OUT and ERR are patterns of bash, whole

@@ -1,10 +1,9 @@
 //! `onnx-gate check`.
 use crate::args::Check;
-use crate::explain::Given;
 use crate::folders::{self, Found};
 use crate::judge::Judge;
 use crate::output::{self, Output};
-use crate::{complain, input, text, WRONG};
+use crate::{complain, text, WRONG};
 use std::io::{self, IsTerminal, Write};
 
 /// Judges every file and gives the exit status: not judged before refused before accepted.
@@ -41,19 +40,17 @@ fn without_list(check: &Check, why: &str, output: &mut Output) -> io::Result<u8>
 
 fn one(judge: &Judge, found: &Found, progress: bool, output: &mut Output) -> io::Result<()> {
     let file = found.file.as_os_str();
-    let read = found.fault.clone().map_or_else(|| input::read(file), Err);
-    let checked = read.and_then(|model| judge.check(file, &model).map(|checked| (model, checked)));
+    let judged = found.fault.clone().map_or_else(|| judge.judge(file), Err);
     if progress {
         over("");
     }
-    match checked {
-        Err(why) => output.not_judged(file, &why),
-        Ok((model, checked)) => match checked.answer {
-            Ok(accepted) => output.accepted(file, accepted),
-            Err(refusal) => {
-                output.refused(file, refusal, &Given { model: &model, operators: &judge.list, cells: checked.cells })
-            }
-        },
+    let judged = match judged {
+        Ok(judged) => judged,
+        Err(why) => return output.not_judged(file, &why),
+    };
+    match judged.answer {
+        Ok(accepted) => output.accepted(file, accepted),
+        Err(refusal) => output.refused(file, refusal, &judge.given(&judged)),
     }
 }
 

@@ -21,6 +21,9 @@ Options:
   -V, --version  print the version
 
 Exit status: 0 all accepted, 1 some refused, 2 bad usage or a file that cannot be judged.
+
+In its repository ./gate is this command, and builds it before. There ./gate MODEL... checks, and ./gate install
+PREFIX installs it with the libraries, the header and the Python module.
 ";
 
 /// The options of `check` and `pass`.

@@ -1,12 +1,20 @@
 //! The library's answer to a model, on the terms that the command line sets.
 use crate::args::{Operators, Terms};
+use crate::explain::Given;
 use crate::{complain, input, lists, text};
-use onnx_gate::{operators, Checked, Options};
+use onnx_gate::{operators, Accepted, Options, Refusal};
 use std::ffi::OsStr;
 
 pub struct Judge {
-    pub list: Vec<u8>,
+    list: Vec<u8>,
     options: Options,
+}
+
+/// The bytes that were read, and the answer to these bytes.
+pub struct Judged {
+    pub model: Vec<u8>,
+    pub answer: Result<Accepted, Refusal>,
+    cells: usize,
 }
 
 impl Judge {
@@ -26,10 +34,17 @@ impl Judge {
         Ok(Judge { list, options: Options { cells, seed: terms.seed, ..Options::default() } })
     }
 
-    /// The answer, or why there is none.
-    pub fn check(&self, file: &OsStr, model: &[u8]) -> Result<Checked, String> {
+    /// The answer to the model in a file, or why there is none.
+    pub fn judge(&self, file: &OsStr) -> Result<Judged, String> {
+        let model = input::read(file)?;
         warn_of_size(file, model.len() as u64);
-        self.options.check(model, &self.list).map_err(|why| why.to_string())
+        let checked = self.options.check(&model, &self.list).map_err(|why| why.to_string())?;
+        Ok(Judged { model, answer: checked.answer, cells: checked.cells })
+    }
+
+    /// What an explanation of the answer goes by.
+    pub fn given<'a>(&'a self, judged: &'a Judged) -> Given<'a> {
+        Given { model: &judged.model, operators: &self.list, cells: judged.cells }
     }
 }
 

@@ -1,9 +1,8 @@
 //! `onnx-gate pass`: the bytes that were checked, for whoever would else read the file a second time.
 use crate::args::Pass;
-use crate::explain::Given;
 use crate::judge::Judge;
 use crate::output::{self, Output};
-use crate::{complain, input, WRONG};
+use crate::{complain, WRONG};
 use std::io::{self, IsTerminal, Write};
 
 /// The verdict goes to standard error. Not a byte goes to standard output before the model is accepted.
@@ -22,18 +21,14 @@ pub fn run(pass: &Pass) -> io::Result<u8> {
     };
     let mut verdict = Output::new(output::errors()?, false, false);
     let file = pass.model.as_os_str();
-    match input::read(file).and_then(|model| judge.check(file, &model).map(|checked| (model, checked))) {
+    match judge.judge(file) {
         Err(why) => verdict.not_judged(file, &why)?,
-        Ok((model, checked)) => match checked.answer {
+        Ok(judged) => match judged.answer {
+            Err(refusal) => verdict.refused(file, refusal, &judge.given(&judged))?,
             Ok(accepted) => {
                 verdict.accepted(file, accepted)?;
-                out.write_all(&model)?;
+                out.write_all(&judged.model)?;
             }
-            Err(refusal) => verdict.refused(
-                file,
-                refusal,
-                &Given { model: &model, operators: &judge.list, cells: checked.cells },
-            )?,
         },
     }
     Ok(verdict.status())

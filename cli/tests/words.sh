@@ -28,7 +28,7 @@ options_from_a_glob() {
     : >--operators && : >--seed
     try 2 '' '*' check -*
     rm -- --operators --seed && : >./7
-    try 2 '' '*"7" is the name of a file here*' check --seed 7 z.onnx
+    try 2 '' '*"7" may be a file: if none is meant, write --seed=7' check --seed 7 z.onnx
     try 1 'z.onnx: refused*' '' check --seed=7 z.onnx
     cd .. || exit 2
 }

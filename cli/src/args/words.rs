@@ -74,8 +74,8 @@ fn no_file(word: &OsStr) -> Result<(), String> {
 }
 
 fn either(word: &OsStr, why: &str) -> String {
-    let bare = text::bare(word.as_bytes());
-    format!("{} {why}: for a file write ./{bare}, or put -- before the models", shown(word))
+    let also = if word == "-" || word == "--" { "" } else { ", or put -- before the models" };
+    format!("{} {why}: for a file write ./{}{also}", shown(word), text::bare(word.as_bytes()))
 }
 
 fn shown(word: &OsStr) -> String {
@@ -106,8 +106,9 @@ impl Words {
             (_, Some(value)) => self.set(option, value)?,
             (_, None) => {
                 let value = more.next().ok_or_else(|| format!("{option} needs a value"))?;
-                if option != "--operators" || value == "-" {
-                    no_file(value)?;
+                if (option != "--operators" || value == "-") && no_file(value).is_err() {
+                    let bare = text::bare(value.as_bytes());
+                    return Err(format!("{} may be a file: if none is meant, write {option}={bare}", shown(value)));
                 }
                 self.set(option, value)?;
             }
