@@ -29,8 +29,7 @@ PREFIX installs it with the libraries, the header and the Python module.
 /// The options of `check` and `pass`.
 macro_rules! terms {
     () => {
-        "\
-      --operators FILE       the operator list of the runtime, as `onnx-gate operators write` makes it
+        "      --operators FILE       the operator list of the runtime, as `onnx-gate operators write` makes it
       --allow DOMAIN:LO-HI   versions of a domain that the runtime has, instead of a list; may stand again.
                              Without either: --allow ai.onnx:7-21 --allow ai.onnx.ml:1-5
       --cells N              refuse a model, with 40, that has more than N names visible at once; without it there
@@ -77,9 +76,10 @@ Options:
     "
 Text: only printable ASCII of names is printed as it is; the rest as \\u{e9}, or \\xff where it is not UTF-8.
 
-JSON: each object has the same keys, and null for what does not apply. accepted is true, false, or null where the
-file was not judged: error says why. file and name are text, in which U+FFFD stands for bytes that are not UTF-8;
-file_hex and name_hex are the same bytes in hex, exactly. Of a name, 1024 bytes are given; name_length is its length.
+JSON: each object has the same keys, and null for what does not apply; notes is a list. accepted is true, false, or
+null where the file was not judged: error says why. file and name are text, in which U+FFFD stands for bytes that are
+not UTF-8; file_hex and name_hex are the same bytes in hex, exactly. At most 1024 bytes of a name are given;
+name_length says how many it has.
 
 Exit status: 0 every model was checked and accepted, 1 some are refused (an unsound list refuses every model), 2 bad
 usage, a file or folder that cannot be read or holds no model, or no memory for the names of a model.

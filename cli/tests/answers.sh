@@ -162,8 +162,8 @@ operator_lists() {
 said() {
     try 0 'Checks ONNX models*Exit status: 0*' '' --help
     try 0 'Checks ONNX models*' '' help
-    try 0 'Accepts or refuses*--operators FILE*' '' check --help
-    try 0 'Writes the bytes*--operators FILE*' '' pass -h
+    try 0 $'Accepts or refuses*Options:\n      --operators FILE*' '' check --help
+    try 0 $'Writes the bytes*Options:\n      --operators FILE*' '' pass -h
     try 0 'Makes and prints operator lists*' '' operators --help
     try 0 'onnx-gate [0-9]*' '' --version
     try 0 'onnx-gate [0-9]*' '' check -V
