@@ -3,7 +3,7 @@
 # The library must be there (./gate builds it). `cli/test.sh --accept` writes the expected output anew.
 set -u
 unset CDPATH GATE_LIB_DIR CARGO_TARGET_DIR CARGO_BUILD_TARGET NO_COLOR POSIXLY_CORRECT ONNX_GATE_LIB PYTHONPATH PKG_CONFIG_PATH \
-    LD_LIBRARY_PATH
+    LD_LIBRARY_PATH CC
 export LC_ALL=C PYTHONDONTWRITEBYTECODE=1
 root=$(cd "$(dirname "$0")/.." && pwd)
 gate=$root/target/cli/release/onnx-gate
