@@ -17,7 +17,8 @@ from_c() {
     local flags="-I'$prefix/include' -L'$prefix/lib' -lonnx_gate"
     if command -v pkg-config >/dev/null; then
         flags=$(PKG_CONFIG_PATH=$prefix/lib/pkgconfig run pkg-config --cflags --libs onnx_gate)
-        same "version" "onnx-gate $(PKG_CONFIG_PATH=$prefix/lib/pkgconfig run pkg-config --modversion onnx_gate)" "$("$gate" --version)"
+        same "version" "onnx-gate $(PKG_CONFIG_PATH=$prefix/lib/pkgconfig run pkg-config --modversion onnx_gate)" \
+            "$("$gate" --version)"
     fi
     eval "holds 'with the shared library' run gcc -o shared example.c $flags"
     expect 0 'accepted nodes 2 names 4' '' env LD_LIBRARY_PATH="$prefix/lib" ./shared good.onnx
