@@ -1,32 +1,39 @@
 //! Where a name is defined, anywhere in the model: what a reader of refusals 23, 30 and 35 looks for next.
+use crate::path::DEEPEST;
 use crate::schema::Kind;
 use crate::wire::{self, Field};
 
-/// A refused file can define a name millions of times; nobody reads that many.
-const MOST: usize = 64;
+/// The first places, in byte order and at most `most`, of inputs, initializers and node outputs that bear `name`. Which
+/// of them are visible somewhere is not said.
+pub fn of(model: &[u8], name: &[u8], most: usize) -> Vec<usize> {
+    let mut search = Search { model, name, most, found: Vec::new() };
+    search.message(Kind::Model, 0, model.len(), 0);
+    search.found
+}
 
-/// The places of inputs, initializers and node outputs that bear `name`, in byte order. Which of them are visible
-/// somewhere is not said.
-pub fn of(model: &[u8], name: &[u8]) -> Vec<usize> {
-    let mut found = Vec::new();
-    let mut open = vec![(Kind::Model, 0, model.len())];
-    while let Some((kind, at, end)) = open.pop() {
-        for f in wire::fields(model, at, end).filter(|f| f.wire == 2) {
-            let Some(stop) = f.end else { continue };
-            if let Some(inner) = leads_to(kind, f.number) {
-                open.push((inner, f.value, stop));
+struct Search<'a> {
+    model: &'a [u8],
+    name: &'a [u8],
+    most: usize,
+    found: Vec<usize>,
+}
+
+impl Search<'_> {
+    /// Adds the definitions in a message. Nothing but them is kept: a hostile file has millions of messages.
+    fn message(&mut self, kind: Kind, at: usize, end: usize, depth: usize) {
+        for f in wire::fields(self.model, at, end).filter(|f| f.wire == 2) {
+            let Some(stop) = f.end else { return };
+            if self.found.len() == self.most {
+                return;
             }
-            if defines(model, kind, &f, stop, name) {
-                found.push(f.tag);
+            if defines(self.model, kind, &f, stop, self.name) {
+                self.found.push(f.tag);
             }
-            if found.len() == MOST {
-                open.clear();
-                break;
+            if let Some(inner) = leads_to(kind, f.number).filter(|_| depth < DEEPEST) {
+                self.message(inner, f.value, stop, depth + 1);
             }
         }
     }
-    found.sort_unstable();
-    found
 }
 
 /// The messages that hold definitions.
@@ -56,10 +63,11 @@ mod tests {
     #[test]
     fn outputs_are_found() {
         let m = crate::samples::bytes("08 08 42 02 10 0D 3A 0E 12 01 67 0A 09 0A 01 61 12 01 61 22 01 58");
-        assert_eq!(of(&m, b"a"), [16]);
-        assert!(of(&m, b"b").is_empty());
+        assert_eq!(of(&m, b"a", 4), [16]);
+        assert!(of(&m, b"b", 4).is_empty());
         let node = [&[0x0A, 0x78], [0x12, 1, b'a'].repeat(40).as_slice()].concat();
         let many = [&[0x3A, 0xF4, 1], node.repeat(2).as_slice()].concat();
-        assert_eq!((of(&many, b"a").len(), of(&many[..130], b"a").len()), (MOST, 0));
+        assert_eq!((of(&many, b"a", 3), of(&many, b"a", 99).len()), (vec![5, 8, 11], 80));
+        assert!(of(&many[..130], b"a", 3).is_empty());
     }
 }

@@ -5,6 +5,7 @@ use crate::schema::{Holds, Kind};
 use crate::wire;
 use onnx_gate::Refusal;
 use std::ops::Range;
+use std::panic::{catch_unwind, UnwindSafe};
 
 /// How many bytes are shown before the place, and in all.
 const BEFORE: usize = 4;
@@ -19,6 +20,7 @@ pub struct Window<'a> {
     pub field: Range<usize>,
 }
 
+#[derive(Default)]
 pub struct Explanation<'a> {
     /// Absent where the fault is not in the model's fields: 7, 8 and 65.
     pub path: Option<String>,
@@ -34,9 +36,29 @@ pub struct Given<'a> {
     pub cells: usize,
 }
 
+/// More memory than any explanation takes: it shows names cut, and nothing in it grows with the model.
+const ROOM: usize = 4 << 20;
+
+/// What can be said about a refusal, or one line why nothing can.
 pub fn explain<'a>(given: &Given<'a>, refusal: Refusal) -> Explanation<'a> {
+    let none = |why| Explanation { notes: vec![format!("no explanation: {why}")], ..Explanation::default() };
+    guarded(ROOM, || found(given, refusal)).unwrap_or_else(none)
+}
+
+/// What `find` finds. That no memory is left, or that it has a mistake, must cost neither this verdict nor the next. So
+/// memory is asked for before: an allocation that fails would end the process.
+fn guarded<T>(room: usize, find: impl FnOnce() -> T + UnwindSafe) -> Result<T, &'static str> {
+    let mut bytes = Vec::<u8>::new();
+    let had = bytes.try_reserve_exact(room);
+    // or the compiler would leave it out
+    drop(std::hint::black_box(bytes));
+    had.map_err(|_| "there is no memory for one")?;
+    catch_unwind(find).map_err(|_| "a mistake in this command")
+}
+
+fn found<'a>(given: &Given<'a>, refusal: Refusal) -> Explanation<'a> {
     if matches!(refusal.number, 7 | 8 | 65) {
-        return Explanation { path: None, name: None, notes: notes::of_arguments(given, refusal), window: None };
+        return Explanation { notes: notes::of_arguments(given, refusal), ..Explanation::default() };
     }
     let mut path = path::find(given.model, refusal.place);
     if lacks_a_field(refusal.number, &path) {
@@ -103,7 +125,7 @@ mod tests {
     const READER: &str = "08 08 42 02 10 0D 3A 0E 12 01 67 0A 09 0A 01 61 12 01 61 22 01 58";
 
     fn explained(model: &[u8], number: u64, place: usize) -> Explanation<'_> {
-        explain(&Given { model, operators: &[0, 0, 0, 1, 1], cells: 3 }, Refusal { number, place })
+        found(&Given { model, operators: &[0, 0, 0, 1, 1], cells: 3 }, Refusal { number, place })
     }
 
     #[test]
@@ -124,6 +146,13 @@ mod tests {
         assert_eq!((e.path.as_deref(), e.window.unwrap().field), (Some("model"), 0..0));
         assert_eq!(e.notes, ["ir_version is absent"]);
         assert!([7, 8, 65].iter().all(|number| explained(&model, *number, 0).path.is_none()));
+    }
+
+    #[test]
+    fn nothing_that_fails_here_goes_further() {
+        assert_eq!(guarded(ROOM, || 7), Ok(7));
+        assert_eq!(guarded(isize::MAX as usize, || 7), Err("there is no memory for one"));
+        assert_eq!(guarded::<()>(ROOM, || panic!("as a test")), Err("a mistake in this command"));
     }
 
     /// Any number at any place of any bytes: an explanation never fails.
@@ -162,9 +191,9 @@ mod tests {
                 let Err(refusal) = onnx_gate::check_with(&model, &list, &mut [0; 8]) else { continue };
                 met.insert(refusal.number);
                 let path = path::find(&model, refusal.place);
-                let found = path.exact || path.unreadable || lacks_a_field(refusal.number, &path);
-                assert!(found, "{refusal} of {model:02x?}");
-                explain(&Given { model: &model, operators: &list, cells: 8 }, refusal);
+                let known = path.exact || path.unreadable || lacks_a_field(refusal.number, &path);
+                assert!(known, "{refusal} of {model:02x?}");
+                found(&Given { model: &model, operators: &list, cells: 8 }, refusal);
             }
         }
         assert!(met.len() >= 30, "{met:?}");

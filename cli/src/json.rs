@@ -1,35 +1,92 @@
-//! One JSON object on a line for each file.
-use crate::explain::Explanation;
+//! One JSON object on a line for each file, always with the same keys. Only ASCII comes out.
+use crate::explain::{Explanation, Window};
 use onnx_gate::{Accepted, Refusal};
+use std::ffi::OsStr;
+use std::os::unix::ffi::OsStrExt;
+
+/// What is known of a file.
+pub enum Verdict<'a> {
+    Accepted(Accepted),
+    Refused(Refusal, Explanation<'a>),
+    NotJudged(&'a str),
+}
+
+/// Longer names are cut. Their length is not.
+const LONGEST: usize = 1024;
+
+/// What does not apply is null. Names and file names may be any bytes, so that they stand in hex as well.
+pub fn object(file: &OsStr, verdict: &Verdict) -> String {
+    let accepted = if let Verdict::Accepted(a) = verdict { Some(a) } else { None };
+    let refusal = if let Verdict::Refused(r, _) = verdict { Some(r) } else { None };
+    let found = if let Verdict::Refused(_, e) = verdict { Some(e) } else { None };
+    let error = if let Verdict::NotJudged(why) = verdict { Some(*why) } else { None };
+    let name = found.and_then(|e| e.name);
+    let cut = name.map(|name| &name[..name.len().min(LONGEST)]);
+    let notes: Vec<String> = found.iter().flat_map(|e| &e.notes).map(|note| string(note)).collect();
+    Object::new()
+        .bytes("file", "file_hex", Some(file.as_bytes()))
+        .raw("accepted", accepted.map(|_| "true").or(refusal.map(|_| "false")))
+        .number("nodes", accepted.map(|a| a.nodes))
+        .number("names", accepted.map(|a| a.names))
+        .number("refusal", refusal.map(|r| r.number))
+        .number("place", refusal.map(|r| r.place as u64))
+        .text("rule", refusal.map(|r| r.name()))
+        .text("explanation", refusal.map(|r| r.explanation()))
+        .text("path", found.and_then(|e| e.path.as_deref()))
+        .bytes("name", "name_hex", cut)
+        .number("name_length", name.map(|n| n.len() as u64))
+        .raw("notes", Some(&format!("[{}]", notes.join(","))))
+        .raw("bytes", found.and_then(|e| e.window.as_ref()).map(window).as_deref())
+        .text("error", error)
+        .end()
+}
+
+fn window(w: &Window) -> String {
+    Object::new()
+        .number("start", Some(w.start as u64))
+        .text("hex", Some(&hex(w.bytes)))
+        .number("field_start", Some(w.field.start as u64))
+        .number("field_end", Some(w.field.end as u64))
+        .end()
+}
 
 /// A JSON object under construction.
-pub struct Object(String);
+struct Object(String);
 
 impl Object {
-    pub fn new() -> Self {
+    fn new() -> Self {
         Object("{".into())
     }
 
     /// A member whose value is JSON already.
-    pub fn raw(mut self, key: &str, value: &str) -> Self {
+    fn raw(mut self, key: &str, value: Option<&str>) -> Self {
         if self.0.len() > 1 {
             self.0.push(',');
         }
-        self.0.push_str(&format!("{}:{value}", string(key)));
+        self.0.push_str(&format!("{}:{}", string(key), value.unwrap_or("null")));
         self
     }
 
-    pub fn text(self, key: &str, value: &str) -> Self {
-        self.raw(key, &string(value))
+    fn number(self, key: &str, value: Option<u64>) -> Self {
+        self.raw(key, value.map(|n| n.to_string()).as_deref())
     }
 
-    pub fn end(self) -> String {
+    fn text(self, key: &str, value: Option<&str>) -> Self {
+        self.raw(key, value.map(string).as_deref())
+    }
+
+    /// As text, in which U+FFFD stands for what is not UTF-8, and as hex.
+    fn bytes(self, key: &str, hex_key: &str, value: Option<&[u8]>) -> Self {
+        let text = value.map(String::from_utf8_lossy);
+        self.text(key, text.as_deref()).text(hex_key, value.map(hex).as_deref())
+    }
+
+    fn end(self) -> String {
         self.0 + "}"
     }
 }
 
-/// A JSON string. Only ASCII comes out, so that no reader's encoding matters.
-pub fn string(text: &str) -> String {
+fn string(text: &str) -> String {
     let mut out = String::from("\"");
     for unit in text.encode_utf16() {
         match unit {
@@ -46,49 +103,6 @@ fn hex(bytes: &[u8]) -> String {
     bytes.iter().map(|b| format!("{b:02x}")).collect()
 }
 
-pub fn accepted(file: &str, a: Accepted) -> String {
-    let o = Object::new().text("file", file).raw("accepted", "true");
-    o.raw("nodes", &a.nodes.to_string()).raw("names", &a.names.to_string()).end()
-}
-
-pub fn unreadable(file: &str, why: &str) -> String {
-    Object::new().text("file", file).text("error", why).end()
-}
-
-pub fn refused(file: &str, r: Refusal, e: &Explanation) -> String {
-    let o = Object::new()
-        .text("file", file)
-        .raw("accepted", "false")
-        .raw("refusal", &r.number.to_string())
-        .raw("place", &r.place.to_string())
-        .text("rule", r.name())
-        .text("explanation", r.explanation())
-        .raw("path", &e.path.as_deref().map_or("null".into(), string));
-    let notes: Vec<String> = e.notes.iter().map(|n| string(n)).collect();
-    name(o, e.name).raw("notes", &format!("[{}]", notes.join(","))).raw("bytes", &window(e)).end()
-}
-
-/// A name as text, and as hex, since it may be any bytes. A longer one than this is cut; its length is not.
-const LONGEST: usize = 1024;
-
-fn name(o: Object, name: Option<&[u8]>) -> Object {
-    let Some(name) = name else {
-        return o.raw("name", "null").raw("name_hex", "null").raw("name_length", "null");
-    };
-    let cut = &name[..name.len().min(LONGEST)];
-    let o = o.text("name", &String::from_utf8_lossy(cut)).text("name_hex", &hex(cut));
-    o.raw("name_length", &name.len().to_string())
-}
-
-fn window(e: &Explanation) -> String {
-    let Some(w) = &e.window else {
-        return "null".into();
-    };
-    let o = Object::new().raw("start", &w.start.to_string()).text("hex", &hex(w.bytes));
-    let o = o.raw("field_start", &w.field.start.to_string());
-    o.raw("field_end", &w.field.end.to_string()).end()
-}
-
 #[cfg(test)]
 mod tests {
     use super::*;
@@ -100,8 +114,11 @@ mod tests {
     }
 
     #[test]
-    fn objects() {
-        assert_eq!(accepted("m", Accepted { nodes: 1, names: 2 }), r#"{"file":"m","accepted":true,"nodes":1,"names":2}"#);
-        assert_eq!(unreadable("m", "gone"), r#"{"file":"m","error":"gone"}"#);
+    fn an_object() {
+        let found = object(OsStr::from_bytes(b"m\xff"), &Verdict::NotJudged("gone"));
+        let expected = r#"{"file":"m\ufffd","file_hex":"6dff","accepted":null,"nodes":null,"names":null,"refusal":null,
+"place":null,"rule":null,"explanation":null,"path":null,"name":null,"name_hex":null,"name_length":null,"notes":[],
+"bytes":null,"error":"gone"}"#;
+        assert_eq!(found, expected.replace('\n', ""));
     }
 }

@@ -3,11 +3,15 @@ mod args;
 mod check;
 mod definitions;
 mod explain;
+mod folders;
 mod help;
 mod input;
 mod json;
+mod judge;
 mod lists;
 mod notes;
+mod output;
+mod pass;
 mod path;
 mod report;
 #[cfg(test)]
@@ -30,10 +34,12 @@ pub const WRONG: u8 = 2;
 pub fn complain(message: &str) {
     let mut err = std::io::stderr();
     let over = if err.is_terminal() { "\r\x1b[K" } else { "" };
-    let _ = writeln!(err, "{over}onnx-gate: {message}");
+    let _ = writeln!(err, "{over}onnx-gate: {}", text::message(message));
 }
 
 fn main() -> ExitCode {
+    // what a mistake in this command says of itself may quote a model, too
+    std::panic::set_hook(Box::new(|why| complain(&why.to_string())));
     let command = match args::parse(std::env::args_os().skip(1)) {
         Ok(command) => command,
         Err(why) => {
@@ -42,8 +48,9 @@ fn main() -> ExitCode {
         }
     };
     let done = match &command {
-        Command::Say(text) => std::io::stdout().write_all(text.as_bytes()).map(|()| DONE),
+        Command::Say(text) => output::standard().and_then(|mut out| out.write_all(text.as_bytes())).map(|()| DONE),
         Command::Check(what) => check::run(what),
+        Command::Pass(what) => pass::run(what),
         Command::Write { file, list } => lists::write(file, list),
         Command::Show { file } => lists::show(file),
         Command::Rules => lists::rules(),
@@ -51,7 +58,7 @@ fn main() -> ExitCode {
     ExitCode::from(done.unwrap_or_else(|why| {
         // a reader that has seen enough, as head, needs no message
         if why.kind() != std::io::ErrorKind::BrokenPipe {
-            complain(&why.to_string());
+            complain(&format!("cannot write: {why}"));
         }
         WRONG
     }))

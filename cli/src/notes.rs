@@ -1,11 +1,12 @@
 //! Lines that say more about one refusal: the value found, what the list allows, where a name is defined.
 use crate::definitions;
 use crate::explain::Given;
+use crate::lists;
 use crate::path::{self, Path, Step};
 use crate::schema::Kind;
 use crate::text::{bare, quoted, signed};
 use crate::wire;
-use onnx_gate::operators::{self, canonical};
+use onnx_gate::operators::canonical;
 use onnx_gate::Refusal;
 
 /// How many definitions are named.
@@ -13,10 +14,7 @@ const NAMED: usize = 3;
 
 /// For 7, 8 and 65, which are not about the model's fields.
 pub fn of_arguments(given: &Given, refusal: Refusal) -> Vec<String> {
-    match (refusal.number, operators::read(given.operators)) {
-        (8, Err(fault)) => vec![fault.to_string()],
-        _ => vec![],
-    }
+    lists::fault(given.operators).filter(|_| refusal.number == 8).into_iter().collect()
 }
 
 pub fn of(given: &Given, refusal: Refusal, path: &Path, name: Option<&[u8]>) -> Vec<String> {
@@ -87,9 +85,8 @@ fn import(given: &Given, number: u64, target: &Step) -> Option<String> {
     if number == 13 {
         return Some(format!("{found}, imported before"));
     }
-    let entries = operators::read(given.operators).unwrap_or_default();
-    Some(match entries.iter().find(|e| canonical(&e.domain) == domain) {
-        Some(e) => format!("{found}; the list allows {} to {}", e.lowest, e.highest),
+    Some(match lists::versions(given.operators, domain) {
+        Some((lowest, highest)) => format!("{found}; the list allows {lowest} to {highest}"),
         None => format!("{found}; the list does not have this domain"),
     })
 }
@@ -108,12 +105,12 @@ fn imports(model: &[u8], target: &Step) -> String {
 fn attribute(model: &[u8], target: &Step) -> Option<String> {
     let (at, end) = (target.field.value, target.field.end?);
     let kind = wire::number(model, at, end, 20).map_or("absent".into(), |t| signed(t).to_string());
-    let mut held: Vec<&str> = wire::fields(model, at, end)
-        .filter(|f| matches!(f.number, 2..=11 | 14 | 15 | 22 | 23))
-        .filter_map(|f| Kind::Attribute.row(f.number).map(|r| r.1))
-        .collect();
+    // a bit for each field number, since a hostile attribute has millions of fields
+    let carriers = wire::fields(model, at, end).filter(|f| matches!(f.number, 2..=11 | 14 | 15 | 22 | 23));
+    let met = carriers.fold(0u32, |met, f| met | 1 << f.number);
+    let names = (0..32).filter(|n| met >> n & 1 == 1).filter_map(|n| Kind::Attribute.row(n));
+    let mut held: Vec<&str> = names.map(|row| row.1).collect();
     held.sort_unstable();
-    held.dedup();
     let held = if held.is_empty() { "nothing".into() } else { held.join(", ") };
     Some(format!("type is {kind}; the attribute holds {held}"))
 }
@@ -121,7 +118,8 @@ fn attribute(model: &[u8], target: &Step) -> Option<String> {
 /// Where else the name is defined: later, in another branch, or nowhere.
 fn defined(model: &[u8], path: &Path, name: &[u8]) -> Vec<String> {
     let itself = |place: &usize| path.steps.iter().any(|s| s.field.tag == *place);
-    let places: Vec<usize> = definitions::of(model, name).into_iter().filter(|p| !itself(p)).collect();
+    // one more, since the field at fault may be among them
+    let places: Vec<usize> = definitions::of(model, name, NAMED + 1).into_iter().filter(|p| !itself(p)).collect();
     if places.is_empty() {
         return vec![format!("nothing in the model defines {}", quoted(name))];
     }

@@ -4,7 +4,7 @@ use crate::text;
 use crate::wire::{self, Field};
 
 /// Eight graphs, each in an attribute of a node, and the dim of a type: the library names nothing deeper.
-const DEEPEST: usize = 64;
+pub const DEEPEST: usize = 64;
 
 /// A field on the way.
 #[derive(Clone, Copy)]
@@ -103,9 +103,7 @@ pub fn find(model: &[u8], place: usize) -> Path<'_> {
 
 /// The field of the message `model[at..end]` that `place` lies in.
 fn around(model: &[u8], at: usize, end: usize, place: usize) -> Option<Field> {
-    wire::fields(model, at, end)
-        .take_while(|f| f.tag <= place)
-        .find(|f| f.end.is_none_or(|stop| place < stop))
+    wire::fields(model, at, end).take_while(|f| f.tag <= place).find(|f| f.end.is_none_or(|stop| place < stop))
 }
 
 fn step(model: &[u8], of: Kind, (at, end): (usize, usize), field: Field) -> Step<'_> {

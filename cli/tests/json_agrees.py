@@ -4,14 +4,22 @@ import re
 import sys
 from pathlib import Path
 
-REFUSED = {"file", "accepted", "refusal", "place", "rule", "explanation", "path", "name", "name_hex", "name_length", "notes", "bytes"}
+KEYS = ["file", "file_hex", "accepted", "nodes", "names", "refusal", "place", "rule", "explanation", "path", "name", "name_hex"]
+KEYS += ["name_length", "notes", "bytes", "error"]
+ALWAYS = {"file", "file_hex", "notes"}
+ACCEPTED = ALWAYS | {"accepted", "nodes", "names"}
+REFUSED = ALWAYS | {"accepted", "refusal", "place", "rule", "explanation"}
 
 
 def line(answer):
     """The answer as the text has it."""
+    assert list(answer) == KEYS, answer
+    assert bytes.fromhex(answer["file_hex"]) == answer["file"].encode(), answer
+    given = {key for key in answer if answer[key] is not None}
     if answer["accepted"]:
+        assert given == ACCEPTED and answer["notes"] == [], answer
         return f"accepted nodes {answer['nodes']} names {answer['names']}"
-    assert set(answer) == REFUSED, answer
+    assert REFUSED <= given <= set(KEYS) - {"nodes", "names", "error"}, answer
     window = answer["bytes"]
     if window and window["hex"]:
         model = Path(answer["file"]).read_bytes()
@@ -24,11 +32,14 @@ def line(answer):
 
 
 answers = [json.loads(text) for text in open(sys.argv[1])]
-assert answers.pop() == {"file": "no-such.onnx", "error": "no such file"}
+missing = answers.pop()
+assert list(missing) == KEYS, missing
+given = {key: value for key, value in missing.items() if value is not None}
+assert given == {"file": "no-such.onnx", "file_hex": b"no-such.onnx".hex(), "notes": [], "error": "no such file"}
 found = {Path(a["file"]).name: line(a) for a in answers}
 text = Path(sys.argv[2]).read_text()
 expected = dict(re.findall(r"^\./(.*\.onnx): (.*)$", text, re.MULTILINE))
 paths = re.findall(r"^  where  (.*)$", text, re.MULTILINE)
 assert found == expected, (found, expected)
-assert [a["path"] for a in answers if "path" in a] == paths
+assert [a["path"] for a in answers if a["path"] is not None] == paths
 print("agrees")

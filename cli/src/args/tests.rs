@@ -6,17 +6,24 @@ fn parsed(words: &str) -> Result<Command, String> {
 
 fn list_of(words: &str) -> Vec<u8> {
     match parsed(words) {
-        Ok(Command::Check(Check { operators: Operators::List(list), .. })) => list,
+        Ok(Command::Check(Check { terms: Terms { operators: Operators::List(list), .. }, .. })) => list,
         other => panic!("{other:?}"),
     }
 }
 
 #[test]
 fn a_check() {
-    let Ok(Command::Check(c)) = parsed("check a.onnx --cells 5 --json -- --b.onnx") else { panic!() };
-    assert_eq!((c.cells, c.seed, c.json), (Some(5), None, true));
-    assert_eq!(c.models, ["a.onnx", "--b.onnx"]);
-    assert_eq!(c.operators, Operators::List(operators::write(&DEFAULT).unwrap()));
+    let Ok(Command::Check(c)) = parsed("check --cells 5 --json -- --b.onnx a.onnx -") else { panic!() };
+    assert_eq!((c.terms.cells, c.terms.seed, c.json, c.quiet), (Some(5), None, true, false));
+    assert_eq!(c.models, ["--b.onnx", "a.onnx", "-"]);
+    assert_eq!(c.terms.operators, Operators::List(operators::write(&DEFAULT).unwrap()));
+}
+
+#[test]
+fn a_pass() {
+    let Ok(Command::Pass(p)) = parsed("pass --seed 3 --operators l -") else { panic!() };
+    let terms = Terms { operators: Operators::File("l".into()), cells: None, seed: Some(3) };
+    assert_eq!(p, Pass { model: "-".into(), terms });
 }
 
 #[test]
@@ -37,7 +44,7 @@ fn seeds() {
         ("0xFFFFFFFFFFFFFFFF", u64::MAX),
     ] {
         let Ok(Command::Check(c)) = parsed(&format!("check --seed {word} m")) else { panic!("{word}") };
-        assert_eq!(c.seed, Some(seed), "{word}");
+        assert_eq!(c.terms.seed, Some(seed), "{word}");
     }
 }
 
@@ -80,6 +87,17 @@ fn bad_usage_is_told() {
         "operators show",
         "operators show a b",
         "rules 3",
+        "pass",
+        "pass a b",
+        "pass --json a",
+        "pass -q a",
+        "pass --operators - -",
+        "check --operators - -",
+        "check - -",
+        "check --json -q a",
+        "check --cells 1 --cells 1 a",
+        "check --seed 1 --seed 1 a",
+        "check --operators a --operators a b",
     ] {
         assert!(parsed(words).is_err(), "{words}");
     }
@@ -88,7 +106,54 @@ fn bad_usage_is_told() {
 #[test]
 fn help_and_version() {
     assert_eq!(parsed("--help"), Ok(Command::Say(crate::help::MAIN)));
-    assert_eq!(parsed("check --cells 3 --help"), Ok(Command::Say(crate::help::CHECK)));
-    assert_eq!(parsed("operators show -h"), Ok(Command::Say(crate::help::OPERATORS)));
+    assert_eq!(parsed("check --help"), Ok(Command::Say(crate::help::CHECK)));
+    assert_eq!(parsed("operators -h"), Ok(Command::Say(crate::help::OPERATORS)));
     assert_eq!(parsed("check -V"), Ok(Command::Say(crate::help::VERSION)));
+}
+
+/// What a shell may make of `*` or `*.onnx` is never help, a version or another rule.
+#[test]
+fn file_names_are_no_options() {
+    for words in [
+        "--help a",
+        "--help=.onnx",
+        "--version a",
+        "check --help a",
+        "check a --help",
+        "check --help=.onnx",
+        "check --help=.onnx a.onnx",
+        "check -V=.onnx",
+        "check --operators=z.onnx a.onnx",
+        "check --operators=z.ONNX a.onnx",
+        "check --operators z.onnx a.onnx",
+        "check --cells=1.onnx a.onnx",
+        "check --json.onnx a.onnx",
+        "check --json=.onnx a.onnx",
+        "check -q.onnx a.onnx",
+        "check a.onnx --json",
+        "check a.onnx -q",
+        "check a.onnx -- b.onnx",
+        "check - --json",
+        "pass --operators=z.onnx a.onnx",
+        "pass a.onnx --seed=3",
+    ] {
+        assert!(parsed(words).is_err(), "{words}");
+    }
+}
+
+#[test]
+fn messages_are_printable() {
+    let hostile = OsString::from("--\u{1b}[2J\u{202e}\u{85}é");
+    for words in [
+        vec![hostile.clone()],
+        vec!["check".into(), hostile.clone()],
+        vec!["check".into(), "a".into(), hostile.clone()],
+        vec!["check".into(), "--cells".into(), hostile.clone()],
+        vec!["check".into(), "--allow".into(), hostile.clone()],
+        vec!["check".into(), "--allow=\u{202e}:0".into(), "a".into()],
+        vec!["rules".into(), "--".into(), hostile],
+    ] {
+        let message = parse(words.iter().cloned()).unwrap_err();
+        assert!(message.bytes().all(|b| (b' '..=b'~').contains(&b)), "{words:?}: {message:?}");
+    }
 }

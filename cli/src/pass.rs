@@ -1,0 +1,35 @@
+//! `onnx-gate pass`: the bytes that were checked, for whoever would else read the file a second time.
+use crate::args::Pass;
+use crate::judge::Judge;
+use crate::output::{self, Output};
+use crate::{complain, WRONG};
+use std::io::{self, IsTerminal, Write};
+
+/// The verdict goes to standard error. Not a byte goes to standard output before the model is accepted.
+pub fn run(pass: &Pass) -> io::Result<u8> {
+    let mut out = output::standard()?;
+    if out.is_terminal() {
+        complain("standard output is a terminal: send the model to a file or a program");
+        return Ok(WRONG);
+    }
+    let judge = match Judge::new(&pass.terms) {
+        Ok(judge) => judge,
+        Err(why) => {
+            complain(&why);
+            return Ok(WRONG);
+        }
+    };
+    let mut verdict = Output::new(output::errors()?, false, false);
+    let file = pass.model.as_os_str();
+    match judge.judge(file) {
+        Err(why) => verdict.not_judged(file, &why)?,
+        Ok(judged) => match judged.answer {
+            Err(refusal) => verdict.refused(file, refusal, &judge.given(&judged))?,
+            Ok(accepted) => {
+                verdict.accepted(file, accepted)?;
+                out.write_all(&judged.model)?;
+            }
+        },
+    }
+    Ok(verdict.status())
+}
