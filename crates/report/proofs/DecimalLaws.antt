@@ -1,11 +1,12 @@
 -- The fewest digits that hold a number are its decimal text.
 use Prim.Native.Nat.{ℕ, zero, suc, _*_, _-_, _/_, _%_, _^_, _≤_, _<_}
-use mathlib.Core.Path.{_≡_, sym, ap, subst, _∙_}
+use mathlib.Core.Path.{_≡_, refl, sym, ap, subst, _∙_}
 use mathlib.Core.List.{[], _∷_, _++_}
 use mathlib.Core.Bool.{Bool, true, false}
 use native.Mathlib.Nat.{lt-of-not-le, le-of-suc-le-suc, mod-eq-of-lt, pow-suc, one-le-pow, pow-le-pow-right, le-div-iff-mul-le, div-lt-iff-lt-mul}
 use native.Mathlib.Omega.{arith}
-use borrow.Author.Tests.{lt-ltb, le-ltb}
+use lib.Dec.{ltb}
+use borrow.Author.Tests.{lt-ltb, le-ltb, ltb-false}
 use Rattle.wire.specs.Bytes.{Bytes}
 use Rattle.io.specs.Digits.{glyph, digits, Fewest}
 use Rattle.report.specs.Line.{spell, decimal}
@@ -60,3 +61,18 @@ spelled (suc (suc j)) (suc bound) n within fewest =
 pub decimal-digits : (n k : ℕ) → Fewest 10 1 n k → digits 10 k n ≡ decimal n
 unfolding decimal
 decimal-digits n k fewest = spelled k (suc n) n (at-most n k (suc n) fewest (omega arith) (ones n)) fewest
+
+-- a bound above the number changes nothing
+spell-agree : (a b n : ℕ) → n < a → n < b → spell a n ≡ spell b n
+unfolding spell step
+spell-agree zero b n h k = absurd (omega arith)
+spell-agree (suc a) zero n h k = absurd (omega arith)
+spell-agree (suc a) (suc b) n h k = go (ltb n 10) (ltb-false n 10) (λ i j. spell-agree a b (n / 10) i j)
+  where
+    go : (t : Bool) → (t ≡ false → 10 ≤ n) → (n / 10 < a → n / 10 < b → spell a (n / 10) ≡ spell b (n / 10)) → step a n t ≡ step b n t
+    go true l ih = refl
+    go false l ih = let tens = l refl in ap (λ l. l ++ (glyph (n % 10) ∷ [])) (ih (omega arith) (omega arith))
+
+pub spell-bound : (bound n : ℕ) → n < bound → spell bound n ≡ decimal n
+unfolding decimal
+spell-bound bound n h = spell-agree bound (suc n) n h (omega arith)

@@ -79,8 +79,8 @@ Demand3 = (model list : Bytes) (cells : ℕ) → Faithful model list cells
 
 -- ---- the definitions themselves
 
--- Wherever a definition recurses on a bound, any larger bound gives the same. (The ten bytes of a varint are a rule and no
--- such bound.)
+-- Wherever `verdict`, `run` or the plain count recurses on a bound, any larger bound gives the same. (The ten bytes of a varint are a rule
+-- and no such bound. `spell` of `report` and `countFrom` of `walk_c` have laws of their own there.)
 pub record BoundsNeverDecide : Type 0 where
   pub of-fields : (model : Bytes) (bound end pos : ℕ) → end ≤ pos + bound → fieldsFrom model bound end pos ≡ fields model end pos
   pub of-entries : (list : Bytes) (bound pos : ℕ) → length list ≤ pos + bound → entriesFrom list bound pos ≡ entriesAt list pos

@@ -1,5 +1,6 @@
--- Names with their places, and which parts of a graph hold them. The second walk and the runner both read models through
--- this file and Message.antt of `wire`, and share nothing else.
+-- Names with their places, and which parts of a graph hold them. The second walk and the runner both read models through this file, the
+-- field numbers of `schema`, and Message.antt, Bytes.antt (`same`, `member`), Lists.antt (`keep`) and Outcome.antt (`each`) below them.
+-- `SharedTrue` says what these do. How names become visible or bound, what is searched, and what a default is, each has of its own.
 use Prim.Native.Nat.{ℕ}
 use mathlib.Core.Bool.{_||_}
 use mathlib.Core.List.{List, map, flatMap}

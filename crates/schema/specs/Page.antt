@@ -35,7 +35,7 @@ named (String._∷_ c more) = String._∷_ c more ++ " "
 marked : Row → String
 marked (Once h) = letter h
 marked (Many h) = letter h ++ "*"
-marked (Packable h) = letter h ++ "*"
+marked (Packable h) = letter h ++ "* packed"
 marked (OneOf h) = letter h
 marked Unknown = "?"
 
@@ -55,14 +55,18 @@ opening (e ∷ more) = elim (e .2) [ Once h ↦ "" | Many h ↦ "" | Packable h 
 line : Kind → String
 line k = opening (rows k) ++ joined (map shown (rows k))
 
--- Document 01's table, with "4, 5, 7, 8, 9 s" written out. (That floats and ints may come packed is a sentence below it.)
+-- Document 01's table, with "4, 5, 7, 8, 9 s" written out, and " packed" after what may also come packed: that is a sentence below it.
 page : List (Kind × String)
 page =
     (Model, "1 ir_version v, 7 graph m, 8 opset_import m*, 25 functions s*")
     ∷ (OperatorSetId, "1 domain s, 2 version v")
     ∷ (Graph, "1 node m*, 2 name s, 5 initializer m*, 11 input m*, 12 output m*, 13 value_info m*, 15 sparse_initializer s*")
     ∷ (Node, "1 input s*, 2 output s*, 3 name s, 4 op_type s, 5 attribute m*, 7 domain s")
-    ∷ (Attribute, "1 name s, 2 f f, 3 i v, 4 s s, 5 t m, 6 g m, 7 floats f*, 8 ints v*, 9 strings s*, 10 tensors m*, 11 graphs m*, 14 tp s, 15 type_protos s*, 20 type v, 21 ref_attr_name s, 22 sparse_tensor s, 23 sparse_tensors s*")
+    ∷ (
+      Attribute,
+      "1 name s, 2 f f, 3 i v, 4 s s, 5 t m, 6 g m, 7 floats f* packed, 8 ints v* packed, 9 strings s*, 10 tensors m*, 11 graphs m*, "
+          ++ "14 tp s, 15 type_protos s*, 20 type v, 21 ref_attr_name s, 22 sparse_tensor s, 23 sparse_tensors s*",
+    )
     ∷ (Tensor, "2 data_type v, 8 name s")
     ∷ (ValueInfo, "1 name s, 2 type m")
     ∷ (TypeProto, "one of: 1 tensor m, 4 s, 5 s, 7 s, 8 s, 9 s")

@@ -50,7 +50,6 @@ pub(crate) fn cell_at(cells: &[u32], i: usize) -> usize
     0
 }
 
-// The caller's cells may hold anything at first.
 pub fn clear(cells: &mut [u32])
     ensures { λ _. ⌜ now (cells .exit) ≡ replicate (length (now (cells .entry))) 0 ⌝ }
 {

@@ -22,7 +22,7 @@ pub enum Ruling {
     Refused(Refusal),
 }
 
-// The numbers of document 01's table, but for those that the wire refuses with.
+// Numbers of document 01's table: those of size and list, of the second walk, and of a graph that stands too deep for it.
 impl Ruling {
     pub const TOO_DEEP: u8 = 6;
 

@@ -2,10 +2,11 @@
 use Prim.Native.Nat.{ℕ, zero, suc, _+_, _≤_, _<_}
 use native.Mathlib.Omega.{arith}
 use mathlib.Core.Path.{_≡_, refl, sym, ap}
+use mathlib.Core.Bool.{Bool, true, false}
 use lib.ListN.{length}
 use lib.Dec.{leb, le→leb}
 use mir.Facts.{no-leb}
-use Rattle.wire.specs.Outcome.{pass, fail, Rule}
+use Rattle.wire.specs.Outcome.{pass, fail, Judged, Rule}
 use Rattle.wire.specs.Bytes.{Bytes}
 use Rattle.wire.specs.Wire.{varint}
 use Rattle.wire.specs.Answers.{varintSays}
@@ -14,6 +15,7 @@ use Rattle.wire.specs.declared.Varint.{Varint}
 use Rattle.wire.specs.declared.VarintAnswer.{VarintAnswer}
 use Rattle.wire.specs.declared.VarintAnswer.the-variants as varint-answer
 use Rattle.wire.proofs.Lists.{T-true, T-false}
+use Rattle.wire.proofs.Tells.{Tells}
 use Rattle.wire.proofs.Passing.{passed-tells}
 use Rattle.wire.proofs.Reading.{AtTag, varint-tells}
 use Rattle.wire.proofs.CursorLaws.{says}
@@ -48,6 +50,28 @@ module _ (bytes : Bytes) (pos : ℕ) where
     count-read : (bound : ℕ) (v : Varint) → varint bytes pos (length bytes) pos ≡ pass v → countFrom bytes (suc bound) pos ≡ suc (countFrom bytes bound (v .next))
     unfolding countFrom
     count-read bound v e = rw (T-false (leb (length bytes) pos) (no-leb h), e, countFrom) refl
+
+-- a bound from the bytes left on changes nothing
+module _ (bytes : Bytes) where
+  count-agree : (a b pos : ℕ) → length bytes ≤ pos + a → length bytes ≤ pos + b → countFrom bytes a pos ≡ countFrom bytes b pos
+  unfolding countFrom varint
+  count-agree zero zero pos h k = refl
+  count-agree zero (suc b) pos h k = sym (count-end bytes pos (suc b) (omega arith))
+  count-agree (suc a) zero pos h k = count-end bytes pos (suc a) (omega arith)
+  count-agree (suc a) (suc b) pos h k =
+      go (leb (length bytes) pos) (varint bytes pos (length bytes) pos) (varint-tells bytes 10 pos (length bytes) pos) (λ p i j. count-agree a b p i j)
+    where
+      go : (t : Bool) (o : Judged Varint) → Tells (λ v. pos < v .next) (AtTag pos) o
+          → ((p : ℕ) → length bytes ≤ p + a → length bytes ≤ p + b → countFrom bytes a p ≡ countFrom bytes b p)
+          → _≡_ {A = ℕ} (elim t [ true ↦ 0 | false ↦ elim o [ pass v ↦ suc (countFrom bytes a (v .next)) | fail r ↦ 0 ] ])
+          (elim t [ true ↦ 0 | false ↦ elim o [ pass v ↦ suc (countFrom bytes b (v .next)) | fail r ↦ 0 ] ])
+      go true o e ih = refl
+      go false (fail r) e ih = refl
+      go false (pass v) e ih = ap suc (ih (v .next) (omega arith) (omega arith))
+
+  pub count-bound : (bound : ℕ) → length bytes ≤ bound → countFrom bytes bound 0 ≡ varintCount bytes
+  unfolding varintCount
+  count-bound bound h = count-agree bound (length bytes) 0 (omega arith) (omega arith)
 
 -- `count` varints stand before `pos`, and those from there on make up the whole
 pub record Counting (bytes : Bytes) (pos count : ℕ) : Type 0 where

@@ -25,7 +25,7 @@ each step s [] = pass s
 each step s (a ∷ more) = step s a >>= λ t. each step t more
 
 -- "*refused* with a number and a place": a refusal is the struct of the code. Number and place are document 01's terms: a place
--- is a byte offset in the model.
+-- is a byte offset in the model. To judge is document 01's word for testing a part of a model against its rules ("A graph judges nodes").
 abbrev pub Judged : Type 0 → Type 0
 Judged A = Outcome Refusal A
 
