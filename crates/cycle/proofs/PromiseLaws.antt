@@ -6,16 +6,16 @@ use mathlib.Core.Bool.{true, false}
 use lib.Dec.{T}
 use mathlib.Core.List.{List, []}
 use lib.ListN.{length}
-use Rattle.wire.specs.Outcome.{pass, _>>=_, _>>_, Judged, Rule, refused}
-use Rattle.wire.specs.declared.Refusal.{Refusal}
+use Rattle.varint.specs.Outcome.{pass, _>>=_, _>>_, Judged, Rule, refused}
+use Rattle.varint.specs.declared.Refusal.{Refusal}
 use Rattle.wire.specs.declared.Field.{Field}
-use Rattle.wire.specs.Bytes.{Bytes}
+use Rattle.varint.specs.Bytes.{Bytes}
 use Rattle.wire.specs.Answers.{soughtSays, soughtIn}
 use Rattle.wire.specs.declared.Cursor.{Cursor}
 use Rattle.wire.specs.declared.Sought.{Sought}
 use Rattle.wire.specs.declared.Sought.the-variants as sought
-use Rattle.wire.proofs.CursorLaws.{says}
-use Rattle.wire.proofs.Passing.{fail-no-pass}
+use Rattle.varint.proofs.Answers.{says}
+use Rattle.varint.proofs.Passing.{fail-no-pass}
 use Rattle.rules.specs.Walk.{Walk}
 use Rattle.scope.specs.Scope.{walkIn, stepSays, standing, grows, Enters, counted, Keeps}
 use Rattle.values.specs.Answers.{rulingSays}

@@ -8,8 +8,8 @@ use lib.ListN.{length, take, drop, replicate, length-append, length-drop, length
 use lib.Seq.{length-take-le}
 use borrow.Author.Tests.{lt-ltb, le-ltb}
 use borrow.Rule.Slice.PartMut.{putMid}
-use Rattle.wire.specs.Outcome.{Judged, refused}
-use Rattle.wire.specs.Bytes.{Bytes}
+use Rattle.varint.specs.Outcome.{Judged, refused}
+use Rattle.varint.specs.Bytes.{Bytes}
 use Rattle.rules.specs.Verdict.{Counts}
 use Rattle.index.specs.Table.{Indexed}
 use Rattle.index.specs.Memory.{known, tableOf}

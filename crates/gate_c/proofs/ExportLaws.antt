@@ -7,11 +7,11 @@ use mathlib.Core.List.{[]}
 use lib.ListN.{length}
 use lib.Dec.{leb}
 use borrow.Author.Tests.{leb-true, le-leb, lt-leb}
-use Rattle.wire.specs.Outcome.{pass, fail, Judged}
-use Rattle.wire.specs.Lists.{contains}
-use Rattle.wire.specs.Bytes.{Bytes, part}
-use Rattle.wire.specs.declared.Refusal.{Refusal}
-use Rattle.wire.proofs.CursorLaws.{says}
+use Rattle.varint.specs.Outcome.{pass, fail, Judged}
+use Rattle.varint.specs.Lists.{contains}
+use Rattle.varint.specs.Bytes.{Bytes, part}
+use Rattle.varint.specs.declared.Refusal.{Refusal}
+use Rattle.varint.proofs.Answers.{says}
 use Rattle.rules.specs.Verdict.{Counts, verdict}
 use Rattle.rules.specs.Demands.{RefusedProperly}
 use Rattle.rules.proofs.Proper.{refusedProperly}

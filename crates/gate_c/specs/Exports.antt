@@ -3,8 +3,8 @@ use Prim.Native.Nat.{ℕ, _+_}
 use mathlib.Core.Bool.{true, false}
 use lib.ListN.{length}
 use lib.Dec.{leb}
-use Rattle.wire.specs.Outcome.{pass, fail, Judged}
-use Rattle.wire.specs.Bytes.{Bytes}
+use Rattle.varint.specs.Outcome.{pass, fail, Judged}
+use Rattle.varint.specs.Bytes.{Bytes}
 use Rattle.rules.specs.Verdict.{Counts}
 use Rattle.gate_c.specs.declared.GateAnswer.{GateAnswer}
 use Rattle.gate_c.specs.declared.GatePart.{GatePart}

@@ -2,8 +2,8 @@
 use Prim.Native.Nat.{ℕ}
 use mathlib.Core.Path.{_≡_, refl}
 use mathlib.Core.List.{List, [], _∷_, map}
-use Rattle.wire.specs.Bytes.{Bytes}
-use Rattle.wire.specs.Notation.{hex, Notation·computes}
+use Rattle.varint.specs.Bytes.{Bytes}
+use Rattle.varint.specs.Notation.{hex, Notation·computes}
 use Rattle.operators.specs.Samples.{L}
 use Rattle.rules.specs.Verdict.{verdict, Verdict·computes}
 use Rattle.gate_c.specs.declared.GateAnswer.{GateAnswer}

@@ -7,8 +7,8 @@ use mathlib.Core.List.{List, [], _∷_}
 use lib.ListN.{length, length-drop}
 use lib.Dec.{T, eqb}
 use borrow.Author.Tests.{le-leb, eq-eqb, ne-eqb}
-use Rattle.wire.specs.Lists.{isEmpty}
-use Rattle.wire.specs.Bytes.{Bytes, same, member}
+use Rattle.varint.specs.Lists.{isEmpty}
+use Rattle.varint.specs.Bytes.{Bytes, same, member}
 use Rattle.index.specs.Table.{nameOf, namesIn, seek, since, Indexed, Stays}
 use Rattle.index.specs.Memory.{known, tableOf, Remembers, Remembered}
 use Rattle.index.specs.Listing.{Listed, Held, Added}

@@ -4,7 +4,7 @@ use native.Mathlib.Omega.{arith}
 use mathlib.Core.Path.{_≡_, refl, sym, ap, _∙_}
 use mathlib.Core.Bool.{Bool, true, false}
 use mathlib.Core.List.{List}
-use Rattle.wire.specs.Bytes.{Bytes, same}
+use Rattle.varint.specs.Bytes.{Bytes, same}
 use Rattle.index.specs.Table.{nameOf, namesIn, seek}
 use Rattle.index.specs.declared.Found.the-variants as found
 use Rattle.index.proofs.TableLaws.{names-length, seek-none}

@@ -9,7 +9,7 @@ use lib.ListN.{length, getD, set, length-set}
 use lib.Seq.{getD-set-same, getD-set-other}
 use lib.Dec.{eqb}
 use borrow.Author.Tests.{eqb-true, eqb-false}
-use Rattle.wire.specs.Bytes.{Bytes, part}
+use Rattle.varint.specs.Bytes.{Bytes, part}
 use Rattle.index.specs.Bucket.{bucket}
 use Rattle.index.specs.Table.{capacity, recordAt, linkOf, newest, nameOf, namesIn, bucketIn, Indexed, Stays, pushing}
 use Rattle.index.specs.declared.Pushed.the-variants as pushed

@@ -5,8 +5,8 @@ use mathlib.Core.Path.{_≡_}
 use mathlib.Core.Bool.{true, false, _||_}
 use mathlib.Core.List.{List}
 use lib.ListN.{length}
-use Rattle.wire.specs.Lists.{isEmpty}
-use Rattle.wire.specs.Bytes.{Bytes, same, member}
+use Rattle.varint.specs.Lists.{isEmpty}
+use Rattle.varint.specs.Bytes.{Bytes, same, member}
 use Rattle.index.specs.Table.{namesIn, seek, since, Indexed}
 use Rattle.index.specs.Memory.{known, tableOf}
 use Rattle.index.specs.declared.listings.Listing.{Listing}

@@ -3,16 +3,16 @@ use mathlib.Core.Path.{_≡_, refl, sym, ap, _∙_}
 use mathlib.Core.Bool.{Bool, true, false, not}
 use mathlib.Core.List.{List, [], _∷_}
 use lib.ListN.{length}
-use Rattle.wire.specs.Outcome.{pass, _>>=_, _>>_, each, Judged, Rule, refused, refuse_at:_when:_}
-use Rattle.wire.specs.declared.Refusal.{Refusal}
+use Rattle.varint.specs.Outcome.{pass, _>>=_, _>>_, each, Judged, Rule, refused, refuse_at:_when:_}
+use Rattle.varint.specs.declared.Refusal.{Refusal}
 use Rattle.wire.specs.declared.Field.{Field}
-use Rattle.wire.specs.Lists.{isEmpty}
-use Rattle.wire.specs.Bytes.{Bytes, member}
+use Rattle.varint.specs.Lists.{isEmpty}
+use Rattle.varint.specs.Bytes.{Bytes, member}
 use Rattle.wire.specs.Message.{numberOf, text, bytesOf, message}
-use Rattle.wire.proofs.Lists.{T-false}
-use Rattle.wire.proofs.Passing.{passed-bind, passed-seq, passed-rule}
-use Rattle.wire.proofs.CursorLaws.{says}
-use Rattle.wire.proofs.Refusing.{when-broken, when-kept, broken, kept}
+use Rattle.varint.proofs.Lists.{T-false}
+use Rattle.varint.proofs.Passing.{passed-bind, passed-seq, passed-rule}
+use Rattle.varint.proofs.Answers.{says}
+use Rattle.varint.proofs.Refusing.{when-broken, when-kept, broken, kept}
 use Rattle.schema.specs.Numbers.{Node·attribute, Attribute·name, Attribute·type, Attribute·ref-attr-name}
 use Rattle.schema.specs.Answers.{silent}
 use Rattle.rules.specs.Names.{Name, nameIn, bodiesOf}

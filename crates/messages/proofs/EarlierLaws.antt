@@ -9,12 +9,12 @@ use Rattle.wire.specs.declared.Field.{Field}
 use Rattle.wire.specs.declared.Cursor.{Cursor}
 use Rattle.wire.specs.declared.Sought.{Sought}
 use Rattle.wire.specs.declared.Sought.the-variants as sought
-use Rattle.wire.specs.Bytes.{Bytes, same, member}
+use Rattle.varint.specs.Bytes.{Bytes, same, member}
 use Rattle.wire.specs.Order.{Ordered}
 use Rattle.wire.specs.Message.{allOf, bytesOf, message}
 use Rattle.wire.specs.Answers.{contentsOf, soughtSays, soughtIn}
-use Rattle.wire.proofs.CursorLaws.{says}
-use Rattle.wire.proofs.Lists.{or-swap}
+use Rattle.varint.proofs.Answers.{says}
+use Rattle.varint.proofs.Lists.{or-swap}
 use Rattle.wire.proofs.Along.{allFrom, Onward, all-none, all-some}
 use Rattle.messages.specs.Earlier.{before, namesIn}
 

@@ -6,17 +6,17 @@ use mathlib.Core.List.{List, []}
 use mathlib.Core.Option.{Option, none, some}
 use lib.Dec.{leb}
 use borrow.Author.Tests.{le-leb, lt-leb}
-use Rattle.wire.specs.Outcome.{pass, _>>=_, _>>_, each, Judged, Rule, refused, refuse_at:_when:_}
-use Rattle.wire.specs.Lists.{isEmpty, present, within}
-use Rattle.wire.specs.Bytes.{Bytes, member}
+use Rattle.varint.specs.Outcome.{pass, _>>=_, _>>_, each, Judged, Rule, refused, refuse_at:_when:_}
+use Rattle.varint.specs.Lists.{isEmpty, present, within}
+use Rattle.varint.specs.Bytes.{Bytes, member}
 use Rattle.wire.specs.Message.{allOf, firstOf, numberOf, placeOf, message, whole}
-use Rattle.wire.specs.declared.Refusal.{Refusal}
+use Rattle.varint.specs.declared.Refusal.{Refusal}
 use Rattle.wire.specs.declared.Field.{Field}
 use Rattle.wire.specs.declared.outlines.Outline.{Outline}
 use Rattle.wire.specs.Outline.{Starts, Outlines}
-use Rattle.wire.proofs.Lists.{no-first}
-use Rattle.wire.proofs.Passing.{pass-same, passed-bind, passed-seq}
-use Rattle.wire.proofs.Refusing.{when-broken, when-kept}
+use Rattle.varint.proofs.Lists.{no-first}
+use Rattle.varint.proofs.Passing.{pass-same, passed-bind, passed-seq}
+use Rattle.varint.proofs.Refusing.{when-broken, when-kept}
 use Rattle.schema.specs.Numbers.{Model·ir-version, Model·graph, Model·opset-import, Model·functions}
 use Rattle.schema.specs.Answers.{silent}
 use Rattle.rules.specs.Header.{opsetImport, header}

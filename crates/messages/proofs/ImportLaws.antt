@@ -5,22 +5,22 @@ use mathlib.Core.Path.{_≡_, refl, sym, ap, subst, _∙_}
 use mathlib.Core.Bool.{Bool, true, false, not, _||_}
 use mathlib.Core.List.{List, [], _∷_, _++_, map, append-assoc, append-nil}
 use lib.ListN.{length}
-use Rattle.wire.specs.Outcome.{pass, _>>=_, _>>_, each, Judged, refused, refuse_at:_when:_}
-use Rattle.wire.specs.Bytes.{Bytes, same, member}
+use Rattle.varint.specs.Outcome.{pass, _>>=_, _>>_, each, Judged, refused, refuse_at:_when:_}
+use Rattle.varint.specs.Bytes.{Bytes, same, member}
 use Rattle.wire.specs.Message.{allOf, numberOf, bytesOf, message, whole}
 use Rattle.wire.specs.Order.{Ordered}
 use Rattle.wire.specs.Outline.{Starts}
 use Rattle.wire.specs.Answers.{contentsOf, soughtSays, soughtIn}
-use Rattle.wire.specs.declared.Refusal.{Refusal}
+use Rattle.varint.specs.declared.Refusal.{Refusal}
 use Rattle.wire.specs.declared.Field.{Field}
 use Rattle.wire.specs.declared.Cursor.{Cursor}
 use Rattle.wire.specs.declared.Sought.{Sought}
 use Rattle.wire.specs.declared.Sought.the-variants as sought
-use Rattle.wire.proofs.Passing.{pass-same, passed-bind, passed-seq}
+use Rattle.varint.proofs.Passing.{pass-same, passed-bind, passed-seq}
 use Rattle.wire.proofs.Fields.{all-of-ordered}
-use Rattle.wire.proofs.Lists.{or-shift, or-false}
-use Rattle.wire.proofs.Refusing.{when-broken, when-kept}
-use Rattle.wire.proofs.CursorLaws.{says}
+use Rattle.varint.proofs.Lists.{or-shift, or-false}
+use Rattle.varint.proofs.Refusing.{when-broken, when-kept}
+use Rattle.varint.proofs.Answers.{says}
 use Rattle.wire.proofs.Along.{allFrom, Onward, all-none, all-some}
 use Rattle.operators.specs.Operators.{domain, allows}
 use Rattle.schema.specs.Numbers.{Model·opset-import, OperatorSetId·domain, OperatorSetId·version}

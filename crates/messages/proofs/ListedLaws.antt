@@ -6,8 +6,8 @@ use mathlib.Core.Bool.{Bool, true, false, _||_}
 use mathlib.Core.List.{List, [], _∷_}
 use lib.ListN.{length}
 use Rattle.wire.specs.declared.Field.{Field}
-use Rattle.wire.specs.Lists.{isEmpty}
-use Rattle.wire.specs.Bytes.{Bytes, same, member}
+use Rattle.varint.specs.Lists.{isEmpty}
+use Rattle.varint.specs.Bytes.{Bytes, same, member}
 use Rattle.wire.specs.Message.{bytesOf, message}
 use Rattle.operators.specs.Operators.{onnx, domain}
 use Rattle.schema.specs.Numbers.{OperatorSetId·domain}

@@ -5,14 +5,14 @@ use mathlib.Core.Bool.{Bool, true, false, not}
 use mathlib.Core.List.{List, [], _∷_}
 use mathlib.Core.Option.{Option, none, some}
 use lib.ListN.{length}
-use Rattle.wire.specs.Outcome.{pass, _>>=_, _>>_, Judged, Rule, refused, refuse_at:_when:_}
+use Rattle.varint.specs.Outcome.{pass, _>>=_, _>>_, Judged, Rule, refused, refuse_at:_when:_}
 use Rattle.wire.specs.declared.Field.{Field}
-use Rattle.wire.specs.Lists.{isEmpty}
-use Rattle.wire.specs.Bytes.{Bytes, member}
+use Rattle.varint.specs.Lists.{isEmpty}
+use Rattle.varint.specs.Bytes.{Bytes, member}
 use Rattle.wire.specs.Message.{firstOf, placeOf, text, bytesOf, message}
-use Rattle.wire.specs.declared.Refusal.{Refusal}
-use Rattle.wire.proofs.CursorLaws.{says}
-use Rattle.wire.proofs.Refusing.{when-broken, when-kept, broken, kept}
+use Rattle.varint.specs.declared.Refusal.{Refusal}
+use Rattle.varint.proofs.Answers.{says}
+use Rattle.varint.proofs.Refusing.{when-broken, when-kept, broken, kept}
 use Rattle.operators.specs.Operators.{domain}
 use Rattle.schema.specs.Numbers.{Graph·node, Node·name, Node·op-type, Node·domain}
 use Rattle.schema.specs.Answers.{silent}

@@ -2,9 +2,9 @@
 use Prim.Native.Nat.{ℕ}
 use mathlib.Core.Path.{_≡_, refl, sym, ap}
 use mathlib.Core.Bool.{Bool, true, false}
-use Rattle.wire.specs.Outcome.{pass, fail, _>>=_, _>>_, Judged, Rule, refuse_at:_when:_}
-use Rattle.wire.specs.declared.Refusal.{Refusal}
-use Rattle.wire.proofs.Passing.{fail-no-pass, passed-bind}
+use Rattle.varint.specs.Outcome.{pass, fail, _>>=_, _>>_, Judged, Rule, refuse_at:_when:_}
+use Rattle.varint.specs.declared.Refusal.{Refusal}
+use Rattle.varint.proofs.Passing.{fail-no-pass, passed-bind}
 use Rattle.schema.specs.Answers.{silent}
 
 pub silent-rule : {A : Type 0} (n p : ℕ) (b : Bool) (o : Judged A) → silent (refuse n at: p when: b >> o) ≡ (refuse n at: p when: b >> silent o)

@@ -2,9 +2,9 @@
 -- `graph-again` in `gate` says that a walk which asks so is the second walk of document 01.
 use mathlib.Core.Bool.{not}
 use mathlib.Core.List.{List}
-use Rattle.wire.specs.Outcome.{pass, _>>_, Rule, refuse_at:_when:_}
+use Rattle.varint.specs.Outcome.{pass, _>>_, Rule, refuse_at:_when:_}
 use Rattle.wire.specs.declared.Field.{Field}
-use Rattle.wire.specs.Bytes.{Bytes, member}
+use Rattle.varint.specs.Bytes.{Bytes, member}
 use Rattle.wire.specs.Message.{placeOf, bytesOf, message}
 use Rattle.operators.specs.Operators.{domain}
 use Rattle.schema.specs.Numbers.{Graph·node, Node·name, Node·op-type, Node·attribute, Node·domain, Attribute·name}

@@ -2,7 +2,7 @@
 use Prim.Native.Nat.{ℕ}
 use mathlib.Core.List.{List, map}
 use Rattle.wire.specs.declared.Field.{Field}
-use Rattle.wire.specs.Bytes.{Bytes}
+use Rattle.varint.specs.Bytes.{Bytes}
 use Rattle.wire.specs.Message.{allOf, bytesOf, message, whole}
 use Rattle.operators.specs.Operators.{domain}
 use Rattle.schema.specs.Numbers.{Model·opset-import, OperatorSetId·domain}

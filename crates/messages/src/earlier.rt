@@ -3,17 +3,17 @@ ghost use mathlib.Core.Path.{_≡_};
 ghost use mathlib.Core.Bool.{false};
 ghost use Prim.Native.Nat.{_^_, _≤_, _<_};
 ghost use lib.ListN.{length};
-ghost use Rattle.wire.specs.Lists.{isEmpty};
-ghost use Rattle.wire.specs.Bytes.{member};
+ghost use Rattle.varint.specs.Lists.{isEmpty};
+ghost use Rattle.varint.specs.Bytes.{member};
 ghost use Rattle.wire.specs.Message.{allOf, bytesOf, message};
 ghost use Rattle.index.specs.Table.{Indexed};
 ghost use Rattle.index.specs.Memory.{known, tableOf};
 ghost use Rattle.index.specs.Listing.{Listed, Added};
 ghost use Rattle.messages.specs.Earlier.{before, namesIn};
 use index::Listing;
+use varint::same_bytes;
 use wire::Field;
 use wire::Sought;
-use wire::same_bytes;
 
 // Of the messages in fields `number` of `m`, as far as they stand before `place`: does one have `text` in its field `name`?
 fn is_earlier(model: &[u8], m: Field, number: u64, name: u64, place: usize, text: &[u8]) -> bool

@@ -3,9 +3,9 @@ ghost use mathlib.Core.Path.{_≡_};
 ghost use Prim.Native.Nat.{ℕ, _^_, _<_};
 ghost use mathlib.Core.List.{List};
 ghost use lib.ListN.{length};
-ghost use Rattle.wire.specs.Outcome.{refused};
-ghost use Rattle.wire.specs.Bytes.{Bytes};
-ghost use Rattle.wire.specs.Lists.{within};
+ghost use Rattle.varint.specs.Outcome.{refused};
+ghost use Rattle.varint.specs.Bytes.{Bytes};
+ghost use Rattle.varint.specs.Lists.{within};
 ghost use Rattle.wire.specs.Message.{message, whole};
 ghost use Rattle.schema.specs.Answers.{silent};
 ghost use Rattle.rules.specs.Header.{header};
@@ -24,8 +24,8 @@ use values::numbers::MODEL_FUNCTIONS;
 use values::numbers::MODEL_GRAPH;
 use values::numbers::MODEL_IR_VERSION;
 use values::numbers::MODEL_OPSET_IMPORT;
+use varint::Refusal;
 use wire::Outline;
-use wire::Refusal;
 
 // "ir_version outside 4..10" is refused.
 fn is_ir_version(version: u64) -> bool

@@ -3,8 +3,8 @@ ghost use mathlib.Core.Path.{_≡_};
 ghost use mathlib.Core.List.{[]};
 ghost use Prim.Native.Nat.{_^_, _≤_, _<_};
 ghost use lib.ListN.{length};
-ghost use Rattle.wire.specs.Outcome.{each};
-ghost use Rattle.wire.specs.Bytes.{member};
+ghost use Rattle.varint.specs.Outcome.{each};
+ghost use Rattle.varint.specs.Bytes.{member};
 ghost use Rattle.wire.specs.Message.{allOf, message, whole};
 ghost use Rattle.wire.specs.Outline.{Starts};
 ghost use Rattle.operators.specs.Operators.{domain};
@@ -28,9 +28,9 @@ use values::numbers::MODEL_OPSET_IMPORT;
 use values::numbers::OPERATOR_SET_ID_DOMAIN;
 use values::numbers::OPERATOR_SET_ID_VERSION;
 use values::refused;
+use varint::Refusal;
 use wire::Cursor;
 use wire::Field;
-use wire::Refusal;
 use wire::Sought;
 
 // The domains that are imported: a listing of those with a name, and whether the default domain is one, which has none.

@@ -1,6 +1,6 @@
 // The model as a message, and whether a message has a field.
 ghost use mathlib.Core.Path.{_≡_};
-ghost use Rattle.wire.specs.Lists.{present};
+ghost use Rattle.varint.specs.Lists.{present};
 ghost use Rattle.wire.specs.Message.{firstOf, numberOf, message, whole};
 ghost use Rattle.wire.specs.Outline.{Starts};
 ghost use Rattle.messages.specs.Imported.{Outlined};

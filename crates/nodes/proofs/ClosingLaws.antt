@@ -4,16 +4,16 @@ use native.Mathlib.Omega.{arith}
 use mathlib.Core.Path.{_≡_, sym, ap, _∙_}
 use mathlib.Core.Bool.{Bool, true, false, not}
 use mathlib.Core.List.{List}
-use Rattle.wire.specs.Outcome.{pass, _>>=_, _>>_, each, Judged, refused}
-use Rattle.wire.specs.declared.Refusal.{Refusal}
+use Rattle.varint.specs.Outcome.{pass, _>>=_, _>>_, each, Judged, refused}
+use Rattle.varint.specs.declared.Refusal.{Refusal}
 use Rattle.wire.specs.declared.Field.{Field}
-use Rattle.wire.specs.Lists.{isEmpty, present}
-use Rattle.wire.specs.Bytes.{Bytes}
+use Rattle.varint.specs.Lists.{isEmpty, present}
+use Rattle.varint.specs.Bytes.{Bytes}
 use Rattle.wire.specs.Message.{allOf, firstOf, message}
-use Rattle.wire.proofs.Lists.{no-first}
-use Rattle.wire.proofs.Passing.{pass-same, passed-bind, passed-seq}
-use Rattle.wire.proofs.CursorLaws.{says}
-use Rattle.wire.proofs.Refusing.{when-broken, when-kept}
+use Rattle.varint.proofs.Lists.{no-first}
+use Rattle.varint.proofs.Passing.{pass-same, passed-bind, passed-seq}
+use Rattle.varint.proofs.Answers.{says}
+use Rattle.varint.proofs.Refusing.{when-broken, when-kept}
 use Rattle.schema.specs.Numbers.{Node·output}
 use Rattle.rules.specs.Walk.{Walk, withNode}
 use Rattle.rules.specs.Node.{nodeOutput}

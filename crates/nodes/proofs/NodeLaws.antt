@@ -3,13 +3,13 @@ use mathlib.Core.Path.{_≡_, sym, ap, _∙_}
 use mathlib.Core.Bool.{Bool, true, false, not}
 use mathlib.Core.List.{List}
 use lib.ListN.{length}
-use Rattle.wire.specs.Outcome.{pass, _>>_, each, Rule, refused, refuse_at:_when:_}
-use Rattle.wire.specs.declared.Refusal.{Refusal}
+use Rattle.varint.specs.Outcome.{pass, _>>_, each, Rule, refused, refuse_at:_when:_}
+use Rattle.varint.specs.declared.Refusal.{Refusal}
 use Rattle.wire.specs.declared.Field.{Field}
-use Rattle.wire.specs.Lists.{isEmpty}
-use Rattle.wire.specs.Bytes.{Bytes}
+use Rattle.varint.specs.Lists.{isEmpty}
+use Rattle.varint.specs.Bytes.{Bytes}
 use Rattle.wire.specs.Message.{allOf, text, message}
-use Rattle.wire.proofs.Refusing.{when-broken, when-kept, broken, kept}
+use Rattle.varint.proofs.Refusing.{when-broken, when-kept, broken, kept}
 use Rattle.schema.specs.Numbers.{Node·input}
 use Rattle.rules.specs.Identifier.{identifier}
 use Rattle.rules.specs.Names.{Name}

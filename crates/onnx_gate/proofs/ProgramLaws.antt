@@ -12,8 +12,8 @@ use lib.IntN.{ℤ, pos, negsuc}
 use lib.Signed.{ltZ}
 use Rattle.io.specs.Counts.{Counts}
 use Rattle.io.proofs.Counting.{counts}
-use Rattle.wire.specs.Outcome.{_>>_, refused, refuse_at:_when:_}
-use Rattle.wire.specs.Bytes.{Bytes}
+use Rattle.varint.specs.Outcome.{_>>_, refused, refuse_at:_when:_}
+use Rattle.varint.specs.Bytes.{Bytes}
 use Rattle.rules.specs.Verdict.{verdict}
 use Rattle.report.specs.Line.{over}
 use Rattle.onnx_gate.specs.declared.files.Loaded.{Loaded}

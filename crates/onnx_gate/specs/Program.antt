@@ -4,8 +4,8 @@ use Prim.Native.Nat.{ℕ}
 use mathlib.Core.Bool.{Bool, false}
 use lib.Dec.{ltb}
 use lib.IntN.{ℤ, pos, negsuc}
-use Rattle.wire.specs.Outcome.{_>>_, Judged, refuse_at:_when:_}
-use Rattle.wire.specs.Bytes.{Bytes}
+use Rattle.varint.specs.Outcome.{_>>_, Judged, refuse_at:_when:_}
+use Rattle.varint.specs.Bytes.{Bytes}
 use Rattle.rules.specs.Verdict.{Counts, verdict}
 use Rattle.onnx_gate.specs.declared.files.Loaded.{Loaded}
 

@@ -9,7 +9,7 @@ use gate::Answer;
 use gate::check;
 use report::line;
 use values::Ruling;
-use wire::Refusal;
+use varint::Refusal;
 
 // "Its whole output is one line with a newline": the first bytes of `out`, as many as are answered.
 pub(crate) fn reply(

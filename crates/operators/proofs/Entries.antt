@@ -7,8 +7,8 @@ use mathlib.Core.List.{List, [], _∷_}
 use lib.ListN.{length}
 use lib.Dec.{leb, le→leb}
 use mir.Facts.{no-leb}
-use Rattle.wire.specs.Bytes.{Bytes}
-use Rattle.wire.proofs.Lists.{T-true, T-false}
+use Rattle.varint.specs.Bytes.{Bytes}
+use Rattle.varint.proofs.Lists.{T-true, T-false}
 use Rattle.operators.specs.Operators.{after, entriesFrom, entriesAt}
 
 module _ (list : Bytes) where

@@ -7,7 +7,7 @@ use mathlib.Core.List.{[]}
 use lib.ListN.{length}
 use lib.Dec.{leb, eqb}
 use borrow.Author.Tests.{eq-eqb, ne-eqb, le-leb, lt-leb}
-use Rattle.wire.specs.Bytes.{Bytes, byte, part, same}
+use Rattle.varint.specs.Bytes.{Bytes, byte, part, same}
 use Rattle.operators.specs.Operators.{onnx, domain, two, four, headed, after, domainOf, lowest, highest, wellFormed}
 
 -- ---- domains; t is the answer of the comparison

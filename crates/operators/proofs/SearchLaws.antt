@@ -8,8 +8,8 @@ use mathlib.Core.Option.{Option, none, some}
 use lib.ListN.{length}
 use lib.Dec.{leb}
 use borrow.Author.Tests.{leb-false, le-leb, lt-leb}
-use Rattle.wire.specs.Lists.{present, within}
-use Rattle.wire.specs.Bytes.{Bytes, same}
+use Rattle.varint.specs.Lists.{present, within}
+use Rattle.varint.specs.Bytes.{Bytes, same}
 use Rattle.operators.specs.Operators.{headed, after, domainOf, lowest, highest, wellFormed, entriesFrom, entriesAt, entryOf, soundEntries, sound, allows}
 use Rattle.operators.specs.declared.lists.Found.{Found}
 use Rattle.operators.specs.declared.lists.Found.the-variants.{At, Nothing}

@@ -6,8 +6,8 @@ use mathlib.Core.List.{List, [], _∷_}
 use mathlib.Core.Option.{Option, none, some}
 use lib.ListN.{length}
 use lib.Dec.{leb, eqb}
-use Rattle.wire.specs.Lists.{present, within, Lists·computes}
-use Rattle.wire.specs.Bytes.{Bytes, byte, part, same, Bytes·computes}
+use Rattle.varint.specs.Lists.{present, within, Lists·computes}
+use Rattle.varint.specs.Bytes.{Bytes, byte, part, same, Bytes·computes}
 
 -- `ai.onnx`
 unfoldable pub onnx : Bytes

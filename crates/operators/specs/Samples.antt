@@ -4,8 +4,8 @@ use Prim.Native.String.{String}
 use mathlib.Core.Path.{_≡_, refl}
 use mathlib.Core.Bool.{Bool, true, false}
 use mathlib.Core.List.{List, [], _∷_, map}
-use Rattle.wire.specs.Bytes.{Bytes}
-use Rattle.wire.specs.Notation.{hex, ascii, Notation·computes}
+use Rattle.varint.specs.Bytes.{Bytes}
+use Rattle.varint.specs.Notation.{hex, ascii, Notation·computes}
 use Rattle.operators.specs.Operators.{domain, sound, allows, Operators·computes}
 
 -- List L of document 01, whole, for the default domain 7 to 21.

@@ -1,8 +1,8 @@
 // "The empty domain and `ai.onnx` are one domain, here and in models."
 ghost use mathlib.Core.Path.{_≡_};
-ghost use Rattle.wire.specs.Bytes.{same};
+ghost use Rattle.varint.specs.Bytes.{same};
 ghost use Rattle.operators.specs.Operators.{domain};
-use wire::same_bytes;
+use varint::same_bytes;
 
 // The name that a domain goes by: for `ai.onnx` the empty one.
 pub fn canonical(d: &[u8]) -> &[u8]

@@ -3,11 +3,11 @@
 ghost use mathlib.Core.Path.{_≡_};
 ghost use mathlib.Core.Option.{none, some};
 ghost use Prim.Native.Nat.{_+_, _-_, _^_, _<_};
-ghost use Rattle.wire.specs.Bytes.{byte};
+ghost use Rattle.varint.specs.Bytes.{byte};
 ghost use Rattle.operators.specs.Operators.{domain, two, four, headed, after, domainOf, lowest, highest, wellFormed, entriesAt, entryOf, sound, allows};
 use crate::canonical;
-use wire::between;
-use wire::same_bytes;
+use varint::between;
+use varint::same_bytes;
 
 // The place of an entry that was looked for.
 enum Found {

@@ -6,11 +6,11 @@ use Rattle.wire.specs.declared.Field.{Field}
 use Rattle.wire.specs.declared.Cursor.{Cursor}
 use Rattle.wire.specs.declared.Sought.{Sought}
 use Rattle.wire.specs.declared.Sought.the-variants as sought
-use Rattle.wire.specs.Bytes.{Bytes}
+use Rattle.varint.specs.Bytes.{Bytes}
 use Rattle.wire.specs.Order.{Ordered}
 use Rattle.wire.specs.Message.{allOf, bytesOf, message}
 use Rattle.wire.specs.Answers.{contentsOf, soughtSays, soughtIn}
-use Rattle.wire.proofs.CursorLaws.{says}
+use Rattle.varint.proofs.Answers.{says}
 use Rattle.wire.proofs.Fields.{all-of-ordered}
 use Rattle.wire.proofs.Along.{allFrom, Onward, all-some}
 use Rattle.index.specs.Listing.{Listed, Held, Added}

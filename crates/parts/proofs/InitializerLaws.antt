@@ -4,13 +4,13 @@ use native.Mathlib.Omega.{arith}
 use mathlib.Core.Path.{_≡_, sym, ap, _∙_}
 use mathlib.Core.Bool.{Bool, true, false, not, _&&_}
 use mathlib.Core.List.{List}
-use Rattle.wire.specs.Outcome.{pass, fail, _>>=_, _>>_, Judged, refused, refuse_at:_when:_}
-use Rattle.wire.specs.declared.Refusal.{Refusal}
+use Rattle.varint.specs.Outcome.{pass, fail, _>>=_, _>>_, Judged, refused, refuse_at:_when:_}
+use Rattle.varint.specs.declared.Refusal.{Refusal}
 use Rattle.wire.specs.declared.Field.{Field}
-use Rattle.wire.specs.Bytes.{Bytes, member}
+use Rattle.varint.specs.Bytes.{Bytes, member}
 use Rattle.wire.specs.Message.{numberOf, placeOf, text, message}
-use Rattle.wire.proofs.CursorLaws.{says}
-use Rattle.wire.proofs.Refusing.{when-broken, when-kept}
+use Rattle.varint.proofs.Answers.{says}
+use Rattle.varint.proofs.Refusing.{when-broken, when-kept}
 use Rattle.schema.specs.Numbers.{Graph·initializer, Tensor·name, Tensor·data-type}
 use Rattle.rules.specs.Names.{Name, nameIn, inputsOf}
 use Rattle.rules.specs.Walk.{Walk, visible, naming, define}

@@ -5,12 +5,12 @@ use mathlib.Core.Path.{_≡_, sym, ap, _∙_}
 use mathlib.Core.Bool.{Bool}
 use mathlib.Core.List.{List, []}
 use lib.ListN.{length}
-use Rattle.wire.specs.Outcome.{pass, fail, _>>=_, _>>_, each, Judged, Rule}
-use Rattle.wire.specs.declared.Refusal.{Refusal}
+use Rattle.varint.specs.Outcome.{pass, fail, _>>=_, _>>_, each, Judged, Rule}
+use Rattle.varint.specs.declared.Refusal.{Refusal}
 use Rattle.wire.specs.declared.Field.{Field}
-use Rattle.wire.specs.Bytes.{Bytes}
+use Rattle.varint.specs.Bytes.{Bytes}
 use Rattle.wire.specs.Message.{message}
-use Rattle.wire.proofs.CursorLaws.{says}
+use Rattle.varint.proofs.Answers.{says}
 use Rattle.schema.specs.Numbers.{ValueInfo·name}
 use Rattle.rules.specs.Names.{Name, nameIn}
 use Rattle.rules.specs.Walk.{Context, inMain, Walk, naming, define}

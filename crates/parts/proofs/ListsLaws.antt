@@ -10,7 +10,7 @@ use Rattle.wire.specs.declared.Field.{Field}
 use Rattle.wire.specs.declared.Cursor.{Cursor}
 use Rattle.wire.specs.declared.Sought.{Sought}
 use Rattle.wire.specs.declared.Sought.the-variants as sought
-use Rattle.wire.specs.Bytes.{Bytes}
+use Rattle.varint.specs.Bytes.{Bytes}
 use Rattle.wire.specs.Message.{bytesOf, message}
 use Rattle.wire.specs.Answers.{contentsOf, soughtSays, soughtIn}
 use Rattle.index.specs.Memory.{known}

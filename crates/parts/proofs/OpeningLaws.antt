@@ -5,17 +5,17 @@ use mathlib.Core.Path.{_≡_, refl, sym, ap, _∙_}
 use mathlib.Core.Bool.{Bool, true, false, _||_}
 use mathlib.Core.List.{List, [], _∷_, map}
 use lib.ListN.{length}
-use Rattle.wire.specs.Outcome.{pass, _>>=_, _>>_, each, Judged, Rule, refused, refuse_at:_when:_}
-use Rattle.wire.specs.declared.Refusal.{Refusal}
+use Rattle.varint.specs.Outcome.{pass, _>>=_, _>>_, each, Judged, Rule, refused, refuse_at:_when:_}
+use Rattle.varint.specs.declared.Refusal.{Refusal}
 use Rattle.wire.specs.declared.Field.{Field}
-use Rattle.wire.specs.Lists.{present}
-use Rattle.wire.specs.Bytes.{Bytes, same, member}
+use Rattle.varint.specs.Lists.{present}
+use Rattle.varint.specs.Bytes.{Bytes, same, member}
 use Rattle.wire.specs.Message.{allOf, firstOf, placeOf, bytesOf, message}
-use Rattle.wire.proofs.Tells.{Tells, Any, any-all, tells-bind, tells-each}
-use Rattle.wire.proofs.Lists.{or-shift, or-false}
-use Rattle.wire.proofs.Passing.{pass-same, passed-tells, passed-bind, passed-seq}
-use Rattle.wire.proofs.CursorLaws.{says}
-use Rattle.wire.proofs.Refusing.{broken, kept}
+use Rattle.varint.proofs.Tells.{Tells, Any, any-all, tells-bind, tells-each}
+use Rattle.varint.proofs.Lists.{or-shift, or-false}
+use Rattle.varint.proofs.Passing.{pass-same, passed-tells, passed-bind, passed-seq}
+use Rattle.varint.proofs.Answers.{says}
+use Rattle.varint.proofs.Refusing.{broken, kept}
 use Rattle.schema.specs.Numbers.{Graph·name, Graph·initializer, Graph·input, Graph·sparse-initializer, Tensor·name, ValueInfo·name}
 use Rattle.schema.specs.Answers.{silent}
 use Rattle.rules.specs.Names.{Name, nameOf, inputsOf}

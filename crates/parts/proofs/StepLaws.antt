@@ -4,18 +4,18 @@ use native.Mathlib.Omega.{arith}
 use mathlib.Core.Path.{_≡_, refl, sym, ap, _∙_}
 use mathlib.Core.List.{List}
 use lib.ListN.{length}
-use Rattle.wire.specs.Outcome.{Judged}
-use Rattle.wire.specs.Bytes.{Bytes}
+use Rattle.varint.specs.Outcome.{Judged}
+use Rattle.varint.specs.Bytes.{Bytes}
 use Rattle.wire.specs.Wire.{field}
 use Rattle.wire.specs.Answers.{soughtSays, soughtIn}
-use Rattle.wire.specs.declared.Refusal.{Refusal}
+use Rattle.varint.specs.declared.Refusal.{Refusal}
 use Rattle.wire.specs.declared.Field.{Field}
 use Rattle.wire.specs.declared.Cursor.{Cursor}
 use Rattle.wire.specs.declared.Sought.{Sought}
 use Rattle.wire.specs.declared.Sought.the-variants as sought
-use Rattle.wire.proofs.Passing.{passed-tells}
+use Rattle.varint.proofs.Passing.{passed-tells}
 use Rattle.wire.proofs.Reading.{Fits, AtTag, field-tells}
-use Rattle.wire.proofs.CursorLaws.{says}
+use Rattle.varint.proofs.Answers.{says}
 use Rattle.wire.proofs.Along.{Along, along-done, along-fails, along-goes, along-falls, along-read, along-placed}
 use Rattle.rules.specs.Names.{nameIn}
 use Rattle.rules.specs.Walk.{Walk}

@@ -2,7 +2,7 @@
 ghost use mathlib.Core.Path.{_≡_};
 ghost use Prim.Native.Nat.{_^_, _<_, _≤_};
 ghost use lib.ListN.{length};
-ghost use Rattle.wire.specs.Outcome.{each};
+ghost use Rattle.varint.specs.Outcome.{each};
 ghost use Rattle.wire.specs.Message.{allOf, message};
 ghost use Rattle.schema.specs.Numbers.{Graph·input};
 ghost use Rattle.rules.specs.Verdict.{fills};

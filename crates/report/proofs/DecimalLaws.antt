@@ -7,7 +7,7 @@ use native.Mathlib.Nat.{lt-of-not-le, le-of-suc-le-suc, mod-eq-of-lt, pow-suc, o
 use native.Mathlib.Omega.{arith}
 use lib.Dec.{ltb}
 use borrow.Author.Tests.{lt-ltb, le-ltb, ltb-false}
-use Rattle.wire.specs.Bytes.{Bytes}
+use Rattle.varint.specs.Bytes.{Bytes}
 use Rattle.io.specs.Digits.{glyph, digits, Fewest}
 use Rattle.report.specs.Line.{spell, decimal}
 

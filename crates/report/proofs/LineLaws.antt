@@ -5,9 +5,9 @@ use mathlib.Core.List.{List, [], _∷_, _++_}
 use native.Mathlib.Omega.{arith}
 use lib.ListN.{length, take, drop, getD, set, length-set, length-append}
 use lib.Seq.{paste, paste-zero, paste-suc, take-length, take-append-seam, drop-append-add, drop-drop}
-use Rattle.wire.specs.Bytes.{Bytes}
-use Rattle.wire.specs.Notation.{ascii}
-use Rattle.wire.specs.declared.Refusal.{Refusal}
+use Rattle.varint.specs.Bytes.{Bytes}
+use Rattle.varint.specs.Notation.{ascii}
+use Rattle.varint.specs.declared.Refusal.{Refusal}
 use Rattle.gate.specs.declared.checks.Answer.{Answer}
 use Rattle.gate.specs.declared.checks.Answer.the-variants as answer
 use Rattle.gate.specs.Meaning.{meaning}

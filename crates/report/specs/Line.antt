@@ -5,9 +5,9 @@ use mathlib.Core.List.{[], _∷_, _++_}
 use lib.ListN.{length, drop}
 use lib.Dec.{ltb}
 use Rattle.io.specs.Digits.{glyph}
-use Rattle.wire.specs.Outcome.{pass, fail, Judged}
-use Rattle.wire.specs.Bytes.{Bytes}
-use Rattle.wire.specs.Notation.{ascii}
+use Rattle.varint.specs.Outcome.{pass, fail, Judged}
+use Rattle.varint.specs.Bytes.{Bytes}
+use Rattle.varint.specs.Notation.{ascii}
 use Rattle.rules.specs.Verdict.{Counts}
 
 -- A number in decimal digits, the most significant first. It has no more digits than ones, so the number is bound enough.

@@ -3,8 +3,8 @@ use Prim.Native.Nat.{ℕ}
 use Prim.Native.String.{String}
 use mathlib.Core.Path.{_≡_, refl}
 use mathlib.Core.List.{List, [], _∷_, _++_, map}
-use Rattle.wire.specs.Outcome.{pass, Judged, refused}
-use Rattle.wire.specs.Notation.{ascii, Notation·computes}
+use Rattle.varint.specs.Outcome.{pass, Judged, refused}
+use Rattle.varint.specs.Notation.{ascii, Notation·computes}
 use Rattle.rules.specs.Verdict.{Counts}
 use Rattle.report.specs.Line.{spell, decimal, numbersOf, lineOf}
 

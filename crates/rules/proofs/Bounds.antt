@@ -7,13 +7,13 @@ use mathlib.Core.Bool.{Bool, true, false, not}
 use mathlib.Core.List.{List, [], _∷_, _++_, map, flatMap}
 use mathlib.Core.Option.{Option, none, some}
 use lib.ListN.{length}
-use Rattle.wire.specs.Outcome.{pass, each}
+use Rattle.varint.specs.Outcome.{pass, each}
 use Rattle.wire.specs.declared.Field.{Field}
-use Rattle.wire.specs.Lists.{keep}
-use Rattle.wire.specs.Bytes.{Bytes, same, member}
+use Rattle.varint.specs.Lists.{keep}
+use Rattle.varint.specs.Bytes.{Bytes, same, member}
 use Rattle.wire.specs.Message.{allOf, firstOf, message, whole}
-use Rattle.wire.proofs.Lists.{All, If, all-map, all-first, all-mapped, all-append, all-flat, flat-agree}
-use Rattle.wire.proofs.Tells.{Any, any-all, each-agree}
+use Rattle.varint.proofs.Lists.{All, If, all-map, all-first, all-mapped, all-append, all-flat, flat-agree}
+use Rattle.varint.proofs.Tells.{Any, any-all, each-agree}
 use Rattle.wire.proofs.Reading.{Fits}
 use Rattle.wire.proofs.Fields.{fields-done, ordered-all, all-of-ordered}
 use Rattle.schema.specs.Numbers.{Model·graph, Graph·node, Graph·initializer, Graph·input, Graph·output, Node·input, Node·output, Tensor·name, ValueInfo·name}

@@ -9,11 +9,11 @@ use mathlib.Core.Option.{Option, none, some}
 use lib.ListN.{length}
 use mir.Facts.{no-leb}
 use lib.Dec.{T, leb, ltb, leb→le, nleb→lt, nltb→le}
-use Rattle.wire.specs.Outcome.{pass, fail, _>>=_, _>>_, each, Judged, Rule, refused, refuse_at:_when:_}
-use Rattle.wire.specs.declared.Refusal.{Refusal}
+use Rattle.varint.specs.Outcome.{pass, fail, _>>=_, _>>_, each, Judged, Rule, refused, refuse_at:_when:_}
+use Rattle.varint.specs.declared.Refusal.{Refusal}
 use Rattle.wire.specs.declared.Field.{Field}
-use Rattle.wire.specs.Lists.{isEmpty}
-use Rattle.wire.specs.Bytes.{Bytes}
+use Rattle.varint.specs.Lists.{isEmpty}
+use Rattle.varint.specs.Bytes.{Bytes}
 use Rattle.wire.specs.Message.{allOf, firstOf, text, message, whole}
 use Rattle.operators.specs.Operators.{sound}
 use Rattle.schema.specs.Numbers.{Model·graph, Graph·node, Graph·name, Graph·initializer, Graph·input, Graph·output, ValueInfo·name}
@@ -27,8 +27,8 @@ use Rattle.rules.specs.Graph.{input, isDefault, defaultOrNew, initialize
 use Rattle.rules.specs.Header.{header, secondWalkTo, secondWalk}
 use Rattle.rules.specs.Verdict.{LARGEST, Counts, counts, fills, verdict}
 use Rattle.rules.specs.Demands.{Acceptable, AcceptedExactly}
-use Rattle.wire.proofs.Lists.{T-false}
-use Rattle.wire.proofs.Passing.{fail-no-pass, pass-same, passed-bind, passed-seq, passed-rule}
+use Rattle.varint.proofs.Lists.{T-false}
+use Rattle.varint.proofs.Passing.{fail-no-pass, pass-same, passed-bind, passed-seq, passed-rule}
 
 abbrev Failed : {A : Type 0} → Judged A → Type 0
 Failed j = (r : Refusal) × (j ≡ fail r)

@@ -7,13 +7,13 @@ use mathlib.Core.Bool.{Bool, true}
 use mathlib.Core.List.{List, [], _∷_, _++_, flatMap}
 use mathlib.Core.Option.{Option, none, some}
 use lib.ListN.{length, length-append}
-use Rattle.wire.specs.Outcome.{pass, _>>=_, _>>_, each, Judged, Rule, refused, refuse_at:_when:_}
+use Rattle.varint.specs.Outcome.{pass, _>>=_, _>>_, each, Judged, Rule, refused, refuse_at:_when:_}
 use Rattle.wire.specs.declared.Field.{Field}
-use Rattle.wire.specs.Lists.{isEmpty}
-use Rattle.wire.specs.Bytes.{Bytes}
+use Rattle.varint.specs.Lists.{isEmpty}
+use Rattle.varint.specs.Bytes.{Bytes}
 use Rattle.wire.specs.Message.{allOf, firstOf, text, message, whole}
-use Rattle.wire.proofs.Lists.{flat-flat}
-use Rattle.wire.proofs.Tells.{Tells, Any, any-all, anything, tells-bind, tells-weaken, tells-seq, tells-if, tells-each}
+use Rattle.varint.proofs.Lists.{flat-flat}
+use Rattle.varint.proofs.Tells.{Tells, Any, any-all, anything, tells-bind, tells-weaken, tells-seq, tells-if, tells-each}
 use Rattle.schema.specs.Numbers.{Model·graph, Graph·node, Graph·name, Graph·initializer, Graph·input, Graph·output, ValueInfo·name}
 use Rattle.schema.specs.Numbers.{Tensor·name, Node·input, Node·output, Node·op-type, Node·attribute, Attribute·name}
 use Rattle.rules.specs.Names.{Name, nameIn, bodiesOf, inputsOf, bodiesIn}

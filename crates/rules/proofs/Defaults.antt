@@ -3,10 +3,10 @@
 use mathlib.Core.Path.{_≡_, refl, sym, ap, _∙_}
 use mathlib.Core.Bool.{Bool, true, false, not, _&&_, _||_, and-true, and-false}
 use mathlib.Core.List.{List, [], _∷_}
-use Rattle.wire.specs.Lists.{keep}
-use Rattle.wire.specs.Bytes.{Bytes, same, member}
-use Rattle.wire.proofs.Lists.{T-true, true-T}
-use Rattle.wire.proofs.Bytes.{same→eq, same-refl}
+use Rattle.varint.specs.Lists.{keep}
+use Rattle.varint.specs.Bytes.{Bytes, same, member}
+use Rattle.varint.proofs.Lists.{T-true, true-T}
+use Rattle.varint.proofs.Bytes.{same→eq, same-refl}
 use Rattle.rules.specs.Walk.{Context}
 use Rattle.rules.specs.Graph.{isDefault}
 

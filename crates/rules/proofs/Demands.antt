@@ -7,13 +7,13 @@ use mathlib.Core.List.{List, [], List·Memᴰ·not-nil}
 use mathlib.Core.Option.{Option, none, some}
 use lib.ListN.{length}
 use lib.Dec.{ltb}
-use Rattle.wire.specs.Outcome.{pass, refused, refuse_at:_when:_}
+use Rattle.varint.specs.Outcome.{pass, refused, refuse_at:_when:_}
 use Rattle.wire.specs.declared.Field.{Field}
-use Rattle.wire.specs.Lists.{contains}
-use Rattle.wire.specs.Bytes.{Bytes}
+use Rattle.varint.specs.Lists.{contains}
+use Rattle.varint.specs.Bytes.{Bytes}
 use Rattle.wire.specs.Message.{firstOf, message, whole}
-use Rattle.wire.proofs.Tells.{Any, any-all}
-use Rattle.wire.proofs.Passing.{pass-same, passed-bind, passed-seq, passed-tells}
+use Rattle.varint.proofs.Tells.{Any, any-all}
+use Rattle.varint.proofs.Passing.{pass-same, passed-bind, passed-seq, passed-tells}
 use Rattle.wire.proofs.Fields.{fields-bound}
 use Rattle.operators.specs.Operators.{sound}
 use Rattle.operators.proofs.Entries.{entries-bound}

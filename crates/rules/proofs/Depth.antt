@@ -8,13 +8,13 @@ use mathlib.Core.List.{[]}
 use mathlib.Core.Option.{Option, none, some}
 use native.Mathlib.Nat.{add-suc}
 use lib.Dec.{T, eqb, eqb→eq}
-use Rattle.wire.specs.Outcome.{Outcome, pass, _>>=_, Judged, refused}
+use Rattle.varint.specs.Outcome.{Outcome, pass, _>>=_, Judged, refused}
 use Rattle.wire.specs.declared.Field.{Field}
-use Rattle.wire.specs.Lists.{keep}
-use Rattle.wire.specs.Bytes.{Bytes}
+use Rattle.varint.specs.Lists.{keep}
+use Rattle.varint.specs.Bytes.{Bytes}
 use Rattle.wire.specs.Message.{allOf, firstOf, message, whole}
-use Rattle.wire.proofs.Lists.{or-cases, All, If, all-map, all-first, all-kept}
-use Rattle.wire.proofs.Tells.{each-agree}
+use Rattle.varint.proofs.Lists.{or-cases, All, If, all-map, all-first, all-kept}
+use Rattle.varint.proofs.Tells.{each-agree}
 use Rattle.schema.specs.declared.Kind.{Kind}
 use Rattle.schema.specs.declared.Kind.the-variants.{Model, Graph, Node, Attribute}
 use Rattle.schema.specs.Rows.{rowOf, isGraph, Rows·computes}

@@ -9,8 +9,8 @@ use lib.ListN.{length, getD, drop, drop-of-length-le}
 use lib.Seq.{drop-cons}
 use lib.Dec.{leb}
 use borrow.Author.Tests.{ne-eqb, le-leb, lt-leb}
-use Rattle.wire.specs.Lists.{within}
-use Rattle.wire.specs.Bytes.{Bytes}
+use Rattle.varint.specs.Lists.{within}
+use Rattle.varint.specs.Bytes.{Bytes}
 use Rattle.rules.specs.Identifier.{isLetter, isDigit, word, identifier}
 
 -- ---- one byte

@@ -6,10 +6,10 @@ use mathlib.Core.Bool.{Bool, true, false, not, _||_}
 use mathlib.Core.List.{List, [], _∷_, _++_, map, flatMap}
 use mathlib.Core.Option.{Option, none, some}
 use lib.Dec.{T, T-not, not-T, eqb, eqb→eq}
-use Rattle.wire.specs.Outcome.{Outcome, pass, fail, _>>=_, _>>_, each, Judged, Rule, refuse_at:_when:_}
-use Rattle.wire.specs.declared.Refusal.{Refusal}
-use Rattle.wire.specs.Lists.{contains}
-use Rattle.wire.proofs.Tells.{Tells, Any, Among, tells-weaken, tells-last}
+use Rattle.varint.specs.Outcome.{Outcome, pass, fail, _>>=_, _>>_, each, Judged, Rule, refuse_at:_when:_}
+use Rattle.varint.specs.declared.Refusal.{Refusal}
+use Rattle.varint.specs.Lists.{contains}
+use Rattle.varint.proofs.Tells.{Tells, Any, Among, tells-weaken, tells-last}
 use Rattle.rules.specs.Runner.{Stop, binding, reading}
 
 -- "The refusals that demand 3 ties to a stop are 23, on a binding, and 30 and 35, on a read, and no others."

@@ -5,13 +5,13 @@ use mathlib.Core.Path.{_≡_, refl}
 use mathlib.Core.List.{List, [], _∷_}
 use mathlib.Core.Option.{Option, none, some}
 use lib.Dec.{T, eqb, eqb-refl}
-use Rattle.wire.specs.Outcome.{Judged}
+use Rattle.varint.specs.Outcome.{Judged}
 use Rattle.wire.specs.declared.Field.{Field}
-use Rattle.wire.specs.Lists.{isEmpty, contains}
-use Rattle.wire.specs.Bytes.{Bytes}
+use Rattle.varint.specs.Lists.{isEmpty, contains}
+use Rattle.varint.specs.Bytes.{Bytes}
 use Rattle.wire.specs.Message.{Message, allOf, firstOf, placeOf, bytesOf, message}
-use Rattle.wire.proofs.Lists.{or-left, or-right, All, If, all-keep, all-first, subset, contains-subset}
-use Rattle.wire.proofs.Tells.{Tells, Any, Among, tells-bind, tells-weaken, tells-if, tells-option, tells-rule, tells-last, tells-each}
+use Rattle.varint.proofs.Lists.{or-left, or-right, All, If, all-keep, all-first, subset, contains-subset}
+use Rattle.varint.proofs.Tells.{Tells, Any, Among, tells-bind, tells-weaken, tells-if, tells-option, tells-rule, tells-last, tells-each}
 use Rattle.schema.specs.Numbers.{Model·ir-version, Model·opset-import, Model·functions, ValueInfo·type, TypeProto·tensor}
 use Rattle.schema.specs.Numbers.{TensorType·elem-type, TensorType·shape, Shape·dim, Dimension·dim-value, Dimension·dim-param, Node·name}
 use Rattle.rules.specs.Names.{nameOf, bodiesOf}

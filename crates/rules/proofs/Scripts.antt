@@ -8,12 +8,12 @@ use mathlib.Core.List.{List, [], _∷_, _++_, map, map-append, flatMap}
 use mathlib.Core.Option.{none, some}
 use lib.Dec.{T, eqb, eqb→eq}
 use Rattle.wire.specs.declared.Field.{Field}
-use Rattle.wire.specs.Lists.{first, keep}
-use Rattle.wire.specs.Bytes.{Bytes, same, member}
+use Rattle.varint.specs.Lists.{first, keep}
+use Rattle.varint.specs.Bytes.{Bytes, same, member}
 use Rattle.wire.specs.Message.{allOf, firstOf, placeOf, text, message}
 use Rattle.wire.specs.Order.{Ordered}
-use Rattle.wire.proofs.Lists.{true-T, All, all-append, all-flat, all-mapped}
-use Rattle.wire.proofs.Tells.{Any, any-all}
+use Rattle.varint.proofs.Lists.{true-T, All, all-append, all-flat, all-mapped}
+use Rattle.varint.proofs.Tells.{Any, any-all}
 use Rattle.wire.proofs.Fields.{message-ordered, keep-ordered, all-of-ordered, ordered-flat}
 use Rattle.schema.specs.Numbers.{Graph·node, Graph·initializer, Graph·input, Graph·output, Node·input, Node·output, Node·attribute, Tensor·name, ValueInfo·name}
 use Rattle.rules.specs.Names.{Name, nameOf, nameIn, bodiesOf, inputsOf, bodiesIn}

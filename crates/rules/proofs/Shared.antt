@@ -10,11 +10,11 @@ use lib.ListN.{length, drop, length-take, length-drop}
 use lib.Seq.{getD-take, getD-drop}
 use lib.Dec.{T, eqb, eqb→eq, eqb-refl}
 use Rattle.wire.specs.declared.Field.{Field}
-use Rattle.wire.specs.Lists.{present, first, keep}
-use Rattle.wire.specs.Bytes.{Bytes, byte, part, same}
+use Rattle.varint.specs.Lists.{present, first, keep}
+use Rattle.varint.specs.Bytes.{Bytes, byte, part, same}
 use Rattle.wire.specs.Message.{Message, allOf, firstOf, placeOf, text, bytesOf, message, whole}
-use Rattle.wire.proofs.Lists.{some-same, true-T, or-cases, or-left, or-right, keep-exactly}
-use Rattle.wire.proofs.Bytes.{same→eq, same-exactly, member-exactly}
+use Rattle.varint.proofs.Lists.{some-same, true-T, or-cases, or-left, or-right, keep-exactly}
+use Rattle.varint.proofs.Bytes.{same→eq, same-exactly, member-exactly}
 use Rattle.wire.proofs.Fields.{message-ordered, keep-ordered, all-of-ordered}
 use Rattle.schema.specs.declared.Kind.the-variants.{Model}
 use Rattle.schema.specs.FirstWalk.{firstWalk}

@@ -1,7 +1,7 @@
 -- A visit to a body under no choices: it is run once.
 use mathlib.Core.Path.{_≡_, refl}
 use mathlib.Core.List.{[]}
-use Rattle.wire.specs.Outcome.{pass, _>>=_}
+use Rattle.varint.specs.Outcome.{pass, _>>=_}
 use Rattle.wire.specs.declared.Field.{Field}
 use Rattle.rules.specs.Runner.{visits, Run, Ran, chosen, choose, forget, times, perform}
 

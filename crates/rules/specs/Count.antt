@@ -4,7 +4,7 @@ use mathlib.Core.List.{List, [], _∷_, flatMap}
 use mathlib.Core.Option.{none, some}
 use lib.ListN.{length}
 use Rattle.wire.specs.declared.Field.{Field}
-use Rattle.wire.specs.Bytes.{Bytes}
+use Rattle.varint.specs.Bytes.{Bytes}
 use Rattle.wire.specs.Message.{allOf, firstOf, message, whole}
 use Rattle.schema.specs.Numbers.{Model·graph, Graph·node}
 use Rattle.rules.specs.Names.{bodiesIn}

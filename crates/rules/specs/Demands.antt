@@ -7,11 +7,11 @@ use mathlib.Core.List.{List, [], _∷_, _++_, List·Memᴰ}
 use mathlib.Core.Option.{none, some}
 use lib.ListN.{length}
 use lib.Dec.{T}
-use Rattle.wire.specs.Outcome.{pass, fail, refused}
-use Rattle.wire.specs.declared.Refusal.{Refusal}
+use Rattle.varint.specs.Outcome.{pass, fail, refused}
+use Rattle.varint.specs.declared.Refusal.{Refusal}
 use Rattle.wire.specs.declared.Field.{Field}
-use Rattle.wire.specs.Lists.{contains}
-use Rattle.wire.specs.Bytes.{Bytes, byte, same, member}
+use Rattle.varint.specs.Lists.{contains}
+use Rattle.varint.specs.Bytes.{Bytes, byte, same, member}
 use Rattle.wire.specs.Wire.{fieldsFrom, fields}
 use Rattle.wire.specs.Message.{Message, allOf, firstOf, text, message, whole}
 use Rattle.wire.specs.Order.{Ordered, Gapless}

@@ -2,10 +2,10 @@
 use Prim.Native.Nat.{ℕ, zero, suc}
 use mathlib.Core.Bool.{Bool, true, false, not, _&&_}
 use mathlib.Core.List.{List, _∷_}
-use Rattle.wire.specs.Outcome.{pass, _>>=_, _>>_, each, Judged, Rule, refused, refuse_at:_when:_}
+use Rattle.varint.specs.Outcome.{pass, _>>=_, _>>_, each, Judged, Rule, refused, refuse_at:_when:_}
 use Rattle.wire.specs.declared.Field.{Field}
-use Rattle.wire.specs.Lists.{present}
-use Rattle.wire.specs.Bytes.{Bytes, member}
+use Rattle.varint.specs.Lists.{present}
+use Rattle.varint.specs.Bytes.{Bytes, member}
 use Rattle.wire.specs.Message.{allOf, firstOf, numberOf, placeOf, message}
 use Rattle.schema.specs.Numbers.{Graph·node, Graph·name, Graph·initializer, Graph·input, Graph·output, Graph·sparse-initializer, ValueInfo·name, Tensor·name, Tensor·data-type}
 use Rattle.rules.specs.Names.{Name, inputsOf}

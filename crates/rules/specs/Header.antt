@@ -3,10 +3,10 @@ use Prim.Native.Nat.{ℕ}
 use mathlib.Core.Bool.{Bool, true, not}
 use mathlib.Core.List.{List, [], _∷_}
 use mathlib.Core.Option.{none, some}
-use Rattle.wire.specs.Outcome.{pass, _>>=_, _>>_, each, Judged, refused, refuse_at:_when:_}
+use Rattle.varint.specs.Outcome.{pass, _>>=_, _>>_, each, Judged, refused, refuse_at:_when:_}
 use Rattle.wire.specs.declared.Field.{Field}
-use Rattle.wire.specs.Lists.{isEmpty, present, within}
-use Rattle.wire.specs.Bytes.{Bytes, member}
+use Rattle.varint.specs.Lists.{isEmpty, present, within}
+use Rattle.varint.specs.Bytes.{Bytes, member}
 use Rattle.wire.specs.Message.{Message, allOf, firstOf, numberOf, placeOf, bytesOf, message, whole}
 use Rattle.operators.specs.Operators.{domain, allows}
 use Rattle.schema.specs.Numbers.{Model·ir-version, Model·graph, Model·opset-import, Model·functions, OperatorSetId·domain, OperatorSetId·version}

@@ -4,8 +4,8 @@ use Prim.Native.Nat.{ℕ}
 use mathlib.Core.Bool.{Bool, true, false, _&&_, _||_}
 use mathlib.Core.List.{[], _∷_}
 use lib.Dec.{eqb}
-use Rattle.wire.specs.Lists.{within, Lists·computes}
-use Rattle.wire.specs.Bytes.{Bytes}
+use Rattle.varint.specs.Lists.{within, Lists·computes}
+use Rattle.varint.specs.Bytes.{Bytes}
 
 -- `A` to `Z`, `a` to `z`, or `_`
 unfoldable pub isLetter : ℕ → Bool

@@ -4,9 +4,9 @@ use Prim.Native.Nat.{ℕ}
 use Prim.Native.String.{String}
 use mathlib.Core.Path.{_≡_, refl}
 use mathlib.Core.List.{List, [], _∷_, _++_, map}
-use Rattle.wire.specs.Outcome.{pass, Judged, refused}
-use Rattle.wire.specs.Bytes.{Bytes}
-use Rattle.wire.specs.Notation.{hex, ascii}
+use Rattle.varint.specs.Outcome.{pass, Judged, refused}
+use Rattle.varint.specs.Bytes.{Bytes}
+use Rattle.varint.specs.Notation.{hex, ascii}
 use Rattle.operators.specs.Samples.{L}
 use Rattle.schema.specs.Numbers.{Model·ir-version, Model·graph, Model·opset-import, OperatorSetId·domain, OperatorSetId·version, Graph·node}
 use Rattle.schema.specs.Numbers.{Graph·name, Graph·initializer, Graph·input, Graph·output, Graph·sparse-initializer, Node·input, Node·output, Node·name}

@@ -5,8 +5,8 @@ use mathlib.Core.Bool.{true, false}
 use mathlib.Core.List.{List, [], _∷_, _++_, flatMap}
 use lib.ListN.{length}
 use lib.Dec.{ltb}
-use Rattle.wire.specs.Bytes.{Bytes}
-use Rattle.wire.specs.Notation.{hex, ascii, words, Notation·computes}
+use Rattle.varint.specs.Bytes.{Bytes}
+use Rattle.varint.specs.Notation.{hex, ascii, words, Notation·computes}
 use Rattle.schema.specs.Numbers.{Model·ir-version, Model·graph, Model·opset-import, OperatorSetId·version, Graph·node}
 use Rattle.schema.specs.Numbers.{Graph·name, Graph·initializer, Graph·input, Graph·output, Node·input, Node·output}
 use Rattle.schema.specs.Numbers.{Node·op-type, Node·attribute, Attribute·name, Attribute·g, Tensor·name, Tensor·data-type}

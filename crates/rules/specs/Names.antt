@@ -6,8 +6,8 @@ use mathlib.Core.Bool.{_||_}
 use mathlib.Core.List.{List, map, flatMap}
 use lib.Dec.{eqb}
 use Rattle.wire.specs.declared.Field.{Field}
-use Rattle.wire.specs.Lists.{keep}
-use Rattle.wire.specs.Bytes.{Bytes}
+use Rattle.varint.specs.Lists.{keep}
+use Rattle.varint.specs.Bytes.{Bytes}
 use Rattle.wire.specs.Message.{Message, allOf, placeOf, text, bytesOf, message, Message·computes}
 use Rattle.schema.specs.Numbers.{Graph·input, Node·attribute, ValueInfo·name, Attribute·g, Attribute·graphs}
 

@@ -4,10 +4,10 @@ use mathlib.Core.Bool.{Bool, true, false, not, _&&_, _||_}
 use mathlib.Core.List.{List, [], _∷_, map}
 use mathlib.Core.Option.{none, some}
 use lib.Dec.{eqb}
-use Rattle.wire.specs.Outcome.{pass, _>>=_, _>>_, each, Judged, Rule, refuse_at:_when:_}
+use Rattle.varint.specs.Outcome.{pass, _>>=_, _>>_, each, Judged, Rule, refuse_at:_when:_}
 use Rattle.wire.specs.declared.Field.{Field}
-use Rattle.wire.specs.Lists.{isEmpty, contains, lookup}
-use Rattle.wire.specs.Bytes.{Bytes, member}
+use Rattle.varint.specs.Lists.{isEmpty, contains, lookup}
+use Rattle.varint.specs.Bytes.{Bytes, member}
 use Rattle.wire.specs.Message.{Message, allOf, numberOf, placeOf, text, bytesOf, message}
 use Rattle.operators.specs.Operators.{domain, Operators·computes}
 use Rattle.schema.specs.Numbers.{Node·input, Node·output, Node·name, Node·op-type, Node·attribute, Node·domain, Attribute·name, Attribute·type, Attribute·ref-attr-name}

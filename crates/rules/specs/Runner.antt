@@ -6,10 +6,10 @@ use mathlib.Core.Bool.{Bool, true, false, not}
 use mathlib.Core.List.{List, [], _∷_, _++_, map, flatMap}
 use mathlib.Core.Option.{Option, none, some}
 use lib.ListN.{length}
-use Rattle.wire.specs.Outcome.{Outcome, pass, fail, _>>=_, each}
+use Rattle.varint.specs.Outcome.{Outcome, pass, fail, _>>=_, each}
 use Rattle.wire.specs.declared.Field.{Field}
-use Rattle.wire.specs.Lists.{keep}
-use Rattle.wire.specs.Bytes.{Bytes, same, member}
+use Rattle.varint.specs.Lists.{keep}
+use Rattle.varint.specs.Bytes.{Bytes, same, member}
 use Rattle.wire.specs.Message.{allOf, firstOf, message, whole}
 use Rattle.schema.specs.Numbers.{Model·graph, Graph·node, Graph·initializer, Graph·input, Graph·output, Node·input, Node·output, Tensor·name, ValueInfo·name}
 use Rattle.rules.specs.Names.{Name, nameOf, nameIn, inputsOf, bodiesIn, Names·computes}

@@ -2,8 +2,8 @@
 use Prim.Native.Nat.{ℕ}
 use mathlib.Core.Path.{_≡_, refl}
 use mathlib.Core.List.{List, [], _∷_, map, reverse}
-use Rattle.wire.specs.Outcome.{Outcome, pass, fail}
-use Rattle.wire.specs.Bytes.{Bytes}
+use Rattle.varint.specs.Outcome.{Outcome, pass, fail}
+use Rattle.varint.specs.Bytes.{Bytes}
 use Rattle.rules.specs.Models.{body, node, graph, model, Models·computes}
 use Rattle.rules.specs.Runner.{Stop, binding, reading, Ran, run, Runner·computes}
 

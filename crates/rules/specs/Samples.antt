@@ -2,9 +2,9 @@
 use Prim.Native.Nat.{ℕ}
 use mathlib.Core.Path.{_≡_, refl}
 use mathlib.Core.List.{List, [], _∷_, map}
-use Rattle.wire.specs.Outcome.{pass, Judged, refused}
-use Rattle.wire.specs.Bytes.{Bytes}
-use Rattle.wire.specs.Notation.{hex, Notation·computes}
+use Rattle.varint.specs.Outcome.{pass, Judged, refused}
+use Rattle.varint.specs.Bytes.{Bytes}
+use Rattle.varint.specs.Notation.{hex, Notation·computes}
 use Rattle.operators.specs.Samples.{L}
 use Rattle.rules.specs.Verdict.{Counts, verdict, Verdict·computes}
 

@@ -4,10 +4,10 @@ use Prim.Native.Nat.{ℕ, _^_}
 use mathlib.Core.Bool.{Bool, not, _&&_}
 use mathlib.Core.Option.{none, some}
 use lib.Dec.{leb}
-use Rattle.wire.specs.Outcome.{_>>_, each, Rule, refused, refuse_at:_when:_}
+use Rattle.varint.specs.Outcome.{_>>_, each, Rule, refused, refuse_at:_when:_}
 use Rattle.wire.specs.declared.Field.{Field}
-use Rattle.wire.specs.Lists.{present, within}
-use Rattle.wire.specs.Bytes.{Bytes}
+use Rattle.varint.specs.Lists.{present, within}
+use Rattle.varint.specs.Bytes.{Bytes}
 use Rattle.wire.specs.Message.{Message, allOf, firstOf, numberOf, placeOf, bytesOf, message, Message·computes}
 use Rattle.schema.specs.Numbers.{ValueInfo·type, TypeProto·tensor, TensorType·elem-type, TensorType·shape, Shape·dim, Dimension·dim-value, Dimension·dim-param}
 use Rattle.rules.specs.Identifier.{identifier, Identifier·computes}

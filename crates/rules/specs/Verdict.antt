@@ -4,8 +4,8 @@ use Prim.Native.Nat.{ℕ}
 use mathlib.Core.Bool.{Bool, not}
 use lib.ListN.{length}
 use lib.Dec.{leb, ltb}
-use Rattle.wire.specs.Outcome.{pass, _>>=_, _>>_, Judged, refuse_at:_when:_}
-use Rattle.wire.specs.Bytes.{Bytes}
+use Rattle.varint.specs.Outcome.{pass, _>>=_, _>>_, Judged, refuse_at:_when:_}
+use Rattle.varint.specs.Bytes.{Bytes}
 use Rattle.operators.specs.Operators.{sound}
 use Rattle.schema.specs.FirstWalk.{firstWalk, FirstWalk·computes}
 use Rattle.rules.specs.Walk.{Walk}

@@ -3,10 +3,10 @@ use Prim.Native.Nat.{ℕ, _+_, max}
 use mathlib.Core.Bool.{Bool, true, false, not, _||_}
 use mathlib.Core.List.{List, [], _∷_}
 use lib.ListN.{length}
-use Rattle.wire.specs.Outcome.{pass, _>>_, Judged, Rule, refuse_at:_when:_}
+use Rattle.varint.specs.Outcome.{pass, _>>_, Judged, Rule, refuse_at:_when:_}
 use Rattle.wire.specs.declared.Field.{Field}
-use Rattle.wire.specs.Lists.{isEmpty}
-use Rattle.wire.specs.Bytes.{Bytes, same}
+use Rattle.varint.specs.Lists.{isEmpty}
+use Rattle.varint.specs.Bytes.{Bytes, same}
 use Rattle.wire.specs.Message.{Message, placeOf, bytesOf}
 use Rattle.rules.specs.Identifier.{identifier, Identifier·computes}
 use Rattle.rules.specs.Names.{Name, nameOf, Names·computes}

@@ -7,13 +7,13 @@ use mathlib.Core.List.{List, []}
 use mathlib.Core.Option.{Option, none, some}
 use lib.Dec.{leb, le→leb, eqb}
 use mir.Facts.{no-leb}
-use Rattle.wire.specs.Outcome.{pass, fail, _>>=_, _>>_, Judged, Rule, refuse_at:_when:_}
-use Rattle.wire.specs.declared.Refusal.{Refusal}
-use Rattle.wire.specs.Bytes.{Bytes}
+use Rattle.varint.specs.Outcome.{pass, fail, _>>=_, _>>_, Judged, Rule, refuse_at:_when:_}
+use Rattle.varint.specs.declared.Refusal.{Refusal}
+use Rattle.varint.specs.Bytes.{Bytes}
 use Rattle.wire.specs.Wire.{tag, value}
 use Rattle.wire.specs.declared.Field.{Field}
-use Rattle.wire.proofs.Lists.{T-true, T-false}
-use Rattle.wire.proofs.Tells.{Tells}
+use Rattle.varint.proofs.Lists.{T-true, T-false}
+use Rattle.varint.proofs.Tells.{Tells}
 use Rattle.wire.proofs.Reading.{AtTag, Follows, tag-tells, value-tells}
 use Rattle.schema.specs.declared.Kind.{Kind}
 use Rattle.schema.specs.Rows.{rowOf, isGraph}

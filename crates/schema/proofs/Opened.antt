@@ -8,15 +8,15 @@ use mathlib.Core.List.{List, [], _∷_}
 use mathlib.Core.Option.{Option, none, some}
 use lib.Dec.{T, leb, eqb}
 use borrow.Author.Tests.{leb-true}
-use Rattle.wire.specs.Outcome.{pass, fail, _>>=_, Rule, refuse_at:_when:_}
-use Rattle.wire.specs.Bytes.{Bytes}
+use Rattle.varint.specs.Outcome.{pass, fail, _>>=_, Rule, refuse_at:_when:_}
+use Rattle.varint.specs.Bytes.{Bytes}
 use Rattle.wire.specs.Wire.{tag, value, field, fieldsFrom, fields}
 use Rattle.wire.specs.Message.{message}
 use Rattle.wire.specs.Order.{Gapless}
 use Rattle.wire.specs.declared.Tag.{Tag}
 use Rattle.wire.specs.declared.Field.{Field}
-use Rattle.wire.proofs.Lists.{All, If, all-member}
-use Rattle.wire.proofs.Passing.{passed-bind, passed-seq, passed-rule, passed-tells}
+use Rattle.varint.proofs.Lists.{All, If, all-member}
+use Rattle.varint.proofs.Passing.{passed-bind, passed-seq, passed-rule, passed-tells}
 use Rattle.wire.proofs.Reading.{Fits, AtTag, Follows, tag-tells, value-tells, field-tells, field-placed}
 use Rattle.wire.proofs.Fields.{fields-ordered, ordered-all}
 use Rattle.schema.specs.declared.Kind.{Kind}

@@ -6,14 +6,14 @@ use mathlib.Core.List.{List, [], _∷_}
 use mathlib.Core.Option.{Option, none, some}
 use lib.ListN.{length}
 use lib.Dec.{leb, nleb→lt}
-use Rattle.wire.specs.Outcome.{Rule}
-use Rattle.wire.specs.declared.Refusal.{Refusal}
-use Rattle.wire.specs.Lists.{contains}
-use Rattle.wire.specs.Bytes.{Bytes}
+use Rattle.varint.specs.Outcome.{Rule}
+use Rattle.varint.specs.declared.Refusal.{Refusal}
+use Rattle.varint.specs.Lists.{contains}
+use Rattle.varint.specs.Bytes.{Bytes}
 use Rattle.wire.specs.Wire.{tag, value}
 use Rattle.wire.specs.declared.Field.{Field}
-use Rattle.wire.proofs.Lists.{subset, contains-subset}
-use Rattle.wire.proofs.Tells.{Tells, Any, Among, tells-bind, tells-weaken, tells-rule, tells-if}
+use Rattle.varint.proofs.Lists.{subset, contains-subset}
+use Rattle.varint.proofs.Tells.{Tells, Any, Among, tells-bind, tells-weaken, tells-rule, tells-if}
 use Rattle.wire.proofs.Reading.{Wire·refusals, AtTag, Follows, tag-tells, value-tells}
 use Rattle.schema.specs.declared.Kind.{Kind}
 use Rattle.schema.specs.Rows.{rowOf}

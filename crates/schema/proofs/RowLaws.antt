@@ -4,8 +4,8 @@ use Prim.Native.String.{String}
 use mathlib.Core.Path.{_≡_, refl, sym, ap}
 use mathlib.Core.List.{List, [], _∷_}
 use lib.Dec.{T, not-T, eqb}
-use Rattle.wire.specs.Lists.{contains}
-use Rattle.wire.proofs.Lists.{or-left, or-right, T-false, subset, contains-subset, NoneOf, none-contained}
+use Rattle.varint.specs.Lists.{contains}
+use Rattle.varint.proofs.Lists.{or-left, or-right, T-false, subset, contains-subset, NoneOf, none-contained}
 use Rattle.schema.specs.declared.Kind.{Kind}
 use Rattle.schema.specs.declared.Row.{Row}
 use Rattle.schema.specs.declared.Row.the-variants.{Unknown}

@@ -10,8 +10,8 @@ use lib.ListN.{length, getD, set, replicate, length-set, getD-replicate}
 use lib.Seq.{getD-set-same, getD-set-other}
 use lib.Dec.{T, ltb, ltb→lt, eqb, eqb→eq}
 use borrow.Author.Tests.{lt-ltb, eqb-true, eqb-false}
-use Rattle.wire.specs.Lists.{contains}
-use Rattle.wire.proofs.Lists.{true-T}
+use Rattle.varint.specs.Lists.{contains}
+use Rattle.varint.proofs.Lists.{true-T}
 use Rattle.schema.specs.declared.Kind.{Kind}
 use Rattle.schema.specs.declared.Kind.the-variants.{Model, OperatorSetId, Graph, Node, Attribute, Tensor, ValueInfo, TypeProto, TensorType, Shape, Dimension}
 use Rattle.schema.specs.declared.Row.{Row}

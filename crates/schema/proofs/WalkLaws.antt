@@ -7,11 +7,11 @@ use mathlib.Core.List.{List, []}
 use lib.ListN.{set, replicate}
 use lib.Dec.{eqb}
 use borrow.Author.Tests.{eq-eqb, ne-eqb, eqb-false}
-use Rattle.wire.specs.Outcome.{pass, fail, _>>=_, _>>_, Rule, refused, refuse_at:_when:_}
-use Rattle.wire.specs.Bytes.{Bytes}
+use Rattle.varint.specs.Outcome.{pass, fail, _>>=_, _>>_, Rule, refused, refuse_at:_when:_}
+use Rattle.varint.specs.Bytes.{Bytes}
 use Rattle.wire.specs.Wire.{tag, value}
 use Rattle.wire.specs.Answers.{tagSays, fieldSays, withCursor}
-use Rattle.wire.specs.declared.Refusal.{Refusal}
+use Rattle.varint.specs.declared.Refusal.{Refusal}
 use Rattle.wire.specs.declared.Tag.{Tag}
 use Rattle.wire.specs.declared.Field.{Field}
 use Rattle.wire.specs.declared.Cursor.{Cursor}
@@ -19,9 +19,10 @@ use Rattle.wire.specs.declared.TagAnswer.{TagAnswer}
 use Rattle.wire.specs.declared.TagAnswer.the-variants as tag-answer
 use Rattle.wire.specs.declared.FieldAnswer.{FieldAnswer}
 use Rattle.wire.specs.declared.FieldAnswer.the-variants as field-answer
-use Rattle.wire.proofs.Passing.{passed-tells}
+use Rattle.varint.proofs.Passing.{passed-tells}
 use Rattle.wire.proofs.Reading.{AtTag, Follows, tag-tells, value-tells}
-use Rattle.wire.proofs.CursorLaws.{says, with-cursor-read, with-cursor-refused}
+use Rattle.varint.proofs.Answers.{says}
+use Rattle.wire.proofs.CursorLaws.{with-cursor-read, with-cursor-refused}
 use Rattle.schema.specs.declared.Kind.{Kind}
 use Rattle.schema.specs.declared.Row.{Row}
 use Rattle.schema.specs.declared.Content.{Content}

@@ -5,7 +5,7 @@ use mathlib.Core.List.{List}
 use mathlib.Core.Option.{Option, none, some}
 use lib.ListN.{getD}
 use lib.Dec.{ltb, eqb}
-use Rattle.wire.specs.Outcome.{pass, fail, _>>=_, Judged, Rule}
+use Rattle.varint.specs.Outcome.{pass, fail, _>>=_, Judged, Rule}
 use Rattle.schema.specs.declared.Kind.{Kind}
 use Rattle.schema.specs.declared.Content.{Content}
 use Rattle.schema.specs.declared.Content.the-variants as content

@@ -6,9 +6,9 @@ use mathlib.Core.List.{List, [], _∷_}
 use mathlib.Core.Option.{Option, none, some}
 use lib.ListN.{length}
 use lib.Dec.{leb, eqb}
-use Rattle.wire.specs.Outcome.{pass, _>>=_, _>>_, Rule, refuse_at:_when:_}
-use Rattle.wire.specs.Lists.{contains}
-use Rattle.wire.specs.Bytes.{Bytes}
+use Rattle.varint.specs.Outcome.{pass, _>>=_, _>>_, Rule, refuse_at:_when:_}
+use Rattle.varint.specs.Lists.{contains}
+use Rattle.varint.specs.Bytes.{Bytes}
 use Rattle.wire.specs.Wire.{VARINT, LEN, I32, tag, value, Wire·computes}
 use Rattle.wire.specs.declared.Field.{Field}
 use Rattle.schema.specs.declared.Kind.{Kind}

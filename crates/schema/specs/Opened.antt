@@ -2,7 +2,7 @@
 use mathlib.Core.Path.{_≡_}
 use mathlib.Core.List.{List, [], _∷_, List·Memᴰ}
 use mathlib.Core.Option.{some}
-use Rattle.wire.specs.Bytes.{Bytes}
+use Rattle.varint.specs.Bytes.{Bytes}
 use Rattle.wire.specs.Message.{message}
 use Rattle.wire.specs.declared.Field.{Field}
 use Rattle.schema.specs.declared.Kind.{Kind}

@@ -3,9 +3,9 @@ use Prim.Native.Nat.{ℕ, zero, suc, _+_}
 use mathlib.Core.Path.{_≡_, refl}
 use mathlib.Core.List.{List, [], _∷_, map}
 use lib.ListN.{length}
-use Rattle.wire.specs.Outcome.{pass, Rule, refused}
-use Rattle.wire.specs.Bytes.{Bytes}
-use Rattle.wire.specs.Notation.{hex, Notation·computes}
+use Rattle.varint.specs.Outcome.{pass, Rule, refused}
+use Rattle.varint.specs.Bytes.{Bytes}
+use Rattle.varint.specs.Notation.{hex, Notation·computes}
 use Rattle.schema.specs.FirstWalk.{firstWalk, FirstWalk·computes}
 
 -- A graph with `n` more inside it, each in an attribute of a node of the one around it.

@@ -3,8 +3,8 @@ mod rows;
 mod walks;
 
 pub use rows::row_of;
+use varint::Refusal;
 pub use walks::first_walk;
-use wire::Refusal;
 
 // The kinds of message that the first walk opens.
 pub enum Kind {

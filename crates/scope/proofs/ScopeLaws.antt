@@ -10,14 +10,14 @@ use lib.Seq.{take-take, take-set-le, getD-take, getD-set-same, getD-set-other}
 use lib.Dec.{leb}
 use borrow.Author.Fill.{fill-more}
 use borrow.Author.Tests.{le-leb, lt-leb}
-use Rattle.wire.specs.Outcome.{pass, _>>_, Judged, refused, refuse_at:_when:_}
-use Rattle.wire.specs.Bytes.{Bytes, part, same}
+use Rattle.varint.specs.Outcome.{pass, _>>_, Judged, refused, refuse_at:_when:_}
+use Rattle.varint.specs.Bytes.{Bytes, part, same}
 use Rattle.wire.specs.Wire.{field}
 use Rattle.wire.specs.Message.{text, message}
 use Rattle.wire.specs.Answers.{fieldSays, withCursor}
 use Rattle.wire.specs.declared.Field.{Field}
 use Rattle.wire.specs.declared.Cursor.{Cursor}
-use Rattle.wire.specs.declared.Refusal.{Refusal}
+use Rattle.varint.specs.declared.Refusal.{Refusal}
 use Rattle.wire.specs.declared.FieldAnswer.{FieldAnswer}
 use Rattle.wire.specs.declared.FieldAnswer.the-variants as field-answer
 use Rattle.wire.proofs.CursorLaws.{answer-read, answer-refused}

@@ -5,7 +5,7 @@ use mathlib.Core.Path.{_≡_}
 use mathlib.Core.List.{List}
 use lib.ListN.{length, take, drop, getD}
 use Rattle.wire.specs.declared.Field.{Field}
-use Rattle.wire.specs.Bytes.{Bytes}
+use Rattle.varint.specs.Bytes.{Bytes}
 use Rattle.wire.specs.Message.{text}
 use Rattle.index.specs.Table.{Indexed}
 use Rattle.index.specs.Memory.{known, tableOf, Remembers, Remembered}

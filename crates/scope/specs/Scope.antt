@@ -5,9 +5,9 @@ use mathlib.Core.Path.{_≡_}
 use mathlib.Core.Bool.{Bool, true}
 use mathlib.Core.List.{List, [], _∷_}
 use lib.ListN.{length, take, getD}
-use Rattle.wire.specs.Outcome.{pass, fail, Judged}
+use Rattle.varint.specs.Outcome.{pass, fail, Judged}
 use Rattle.wire.specs.declared.Field.{Field}
-use Rattle.wire.specs.Bytes.{Bytes, member}
+use Rattle.varint.specs.Bytes.{Bytes, member}
 use Rattle.wire.specs.Wire.{field}
 use Rattle.wire.specs.Message.{text, message}
 use Rattle.rules.specs.Names.{Name, inputsOf}

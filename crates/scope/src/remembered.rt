@@ -23,8 +23,8 @@ use index::remember_name;
 use messages::Imports;
 use messages::list_name;
 use values::Ruling;
+use varint::same_bytes;
 use wire::Field;
-use wire::same_bytes;
 
 // How the extra cells are used: the caller's seed, how many of them are for the scope, and what the rest holds of the imports.
 pub struct Index {

@@ -4,15 +4,15 @@ ghost use mathlib.Core.Path.{_≡_};
 ghost use Prim.Native.Nat.{ℕ, max};
 ghost use mathlib.Core.List.{List};
 ghost use lib.ListN.{length, getD, replicate};
-ghost use Rattle.wire.specs.Outcome.{refused};
-ghost use Rattle.wire.specs.Bytes.{Bytes};
+ghost use Rattle.varint.specs.Outcome.{refused};
+ghost use Rattle.varint.specs.Bytes.{Bytes};
 ghost use Rattle.scope.specs.Scope.{nameAt, stepSays, standing, left, grows};
 ghost use Rattle.scope.specs.declared.scopes.Progress.{Progress};
 use values::Ruling;
+use varint::Refusal;
+use varint::between;
 use wire::Cursor;
 use wire::FieldAnswer;
-use wire::Refusal;
-use wire::between;
 
 // How far the second walk has come: how many cells are used, the nodes so far, and the most names visible together so far.
 pub struct Progress {

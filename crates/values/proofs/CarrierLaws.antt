@@ -7,18 +7,18 @@ use mathlib.Core.List.{List, [], _∷_, map}
 use mathlib.Core.Option.{Option, none, some}
 use lib.Dec.{T, not-T, eqb, eqb→eq}
 use borrow.Author.Tests.{eq-eqb, ne-eqb}
-use Rattle.wire.specs.Outcome.{pass}
-use Rattle.wire.specs.declared.Refusal.{Refusal}
+use Rattle.varint.specs.Outcome.{pass}
+use Rattle.varint.specs.declared.Refusal.{Refusal}
 use Rattle.wire.specs.declared.Field.{Field}
 use Rattle.wire.specs.declared.Cursor.{Cursor}
 use Rattle.wire.specs.declared.FieldAnswer.{FieldAnswer}
 use Rattle.wire.specs.declared.FieldAnswer.the-variants as field-answer
-use Rattle.wire.specs.Lists.{isEmpty, present, keep, contains, lookup}
-use Rattle.wire.specs.Bytes.{Bytes}
+use Rattle.varint.specs.Lists.{isEmpty, present, keep, contains, lookup}
+use Rattle.varint.specs.Bytes.{Bytes}
 use Rattle.wire.specs.Wire.{field, fields}
 use Rattle.wire.specs.Message.{Message, allOf, firstOf, numberOf, message}
 use Rattle.wire.specs.Answers.{contentsOf, fieldSays, withCursor}
-use Rattle.wire.proofs.Lists.{or-swap, no-first, true-T, T-false, subset, contains-subset, NoneOf, none-contained}
+use Rattle.varint.proofs.Lists.{or-swap, no-first, true-T, T-false, subset, contains-subset, NoneOf, none-contained}
 use Rattle.wire.proofs.CursorLaws.{answer-read, answer-refused}
 use Rattle.wire.proofs.Reading.{Fits, field-tells}
 use Rattle.wire.proofs.Fields.{fields-done, fields-step, fields-stop}

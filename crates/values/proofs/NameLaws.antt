@@ -6,17 +6,17 @@ use mathlib.Core.Bool.{Bool, true, false, not}
 use mathlib.Core.List.{[], _∷_}
 use mathlib.Core.Option.{Option, none, some}
 use lib.ListN.{length}
-use Rattle.wire.specs.Outcome.{pass, fail, _>>=_, _>>_, Judged, refused, refuse_at:_when:_}
-use Rattle.wire.specs.declared.Refusal.{Refusal}
+use Rattle.varint.specs.Outcome.{pass, fail, _>>=_, _>>_, Judged, refused, refuse_at:_when:_}
+use Rattle.varint.specs.declared.Refusal.{Refusal}
 use Rattle.wire.specs.declared.Field.{Field}
-use Rattle.wire.specs.Lists.{isEmpty}
-use Rattle.wire.specs.Bytes.{Bytes}
+use Rattle.varint.specs.Lists.{isEmpty}
+use Rattle.varint.specs.Bytes.{Bytes}
 use Rattle.wire.specs.Message.{firstOf, placeOf, text, bytesOf, message}
-use Rattle.wire.proofs.Lists.{T-false, some-same}
-use Rattle.wire.proofs.CursorLaws.{says}
-use Rattle.wire.proofs.Passing.{fail-no-pass, pass-same, fail-same, passed-seq, passed-rule}
+use Rattle.varint.proofs.Lists.{T-false, some-same}
+use Rattle.varint.proofs.Answers.{says}
+use Rattle.varint.proofs.Passing.{fail-no-pass, pass-same, fail-same, passed-seq, passed-rule}
 use Rattle.wire.proofs.MessageLaws.{first-placed}
-use Rattle.wire.proofs.Refusing.{when-broken, when-kept}
+use Rattle.varint.proofs.Refusing.{when-broken, when-kept}
 use Rattle.schema.specs.Answers.{silent}
 use Rattle.rules.specs.Identifier.{identifier}
 use Rattle.rules.specs.Names.{Name, nameOf, nameIn}

@@ -1,15 +1,15 @@
 -- What a ruling says, and a rule for each field of one number as a loop tests it.
 use Prim.Native.Nat.{ℕ}
 use mathlib.Core.Path.{_≡_, sym, _∙_}
-use Rattle.wire.specs.Outcome.{pass, fail, Rule}
-use Rattle.wire.specs.Bytes.{Bytes}
+use Rattle.varint.specs.Outcome.{pass, fail, Rule}
+use Rattle.varint.specs.Bytes.{Bytes}
 use Rattle.wire.specs.Answers.{soughtSays, soughtIn}
-use Rattle.wire.specs.declared.Refusal.{Refusal}
+use Rattle.varint.specs.declared.Refusal.{Refusal}
 use Rattle.wire.specs.declared.Field.{Field}
 use Rattle.wire.specs.declared.Cursor.{Cursor}
 use Rattle.wire.specs.declared.Sought.{Sought}
 use Rattle.wire.specs.declared.Sought.the-variants as sought
-use Rattle.wire.proofs.CursorLaws.{says}
+use Rattle.varint.proofs.Answers.{says}
 use Rattle.wire.proofs.Along.{Along, along-fails, along-goes}
 use Rattle.values.specs.Answers.{rulingSays}
 use Rattle.values.specs.declared.Ruling.{Ruling}

@@ -6,12 +6,12 @@ use mathlib.Core.List.{[]}
 use mathlib.Core.Option.{Option, none, some}
 use lib.Dec.{leb}
 use borrow.Author.Tests.{le-leb, lt-leb}
-use Rattle.wire.specs.Outcome.{pass, each, refused, refuse_at:_when:_, Rule}
+use Rattle.varint.specs.Outcome.{pass, each, refused, refuse_at:_when:_, Rule}
 use Rattle.wire.specs.declared.Field.{Field}
-use Rattle.wire.specs.Lists.{present, within}
-use Rattle.wire.specs.Bytes.{Bytes}
+use Rattle.varint.specs.Lists.{present, within}
+use Rattle.varint.specs.Bytes.{Bytes}
 use Rattle.wire.specs.Message.{allOf, firstOf, numberOf, placeOf, text, bytesOf, message}
-use Rattle.wire.proofs.Refusing.{when-broken, when-kept, broken, kept}
+use Rattle.varint.proofs.Refusing.{when-broken, when-kept, broken, kept}
 use Rattle.schema.specs.Numbers.{ValueInfo·type, TypeProto·tensor, TensorType·elem-type, TensorType·shape, Shape·dim, Dimension·dim-value, Dimension·dim-param}
 use Rattle.rules.specs.Identifier.{identifier}
 use Rattle.rules.specs.Walk.{Context, inMain}

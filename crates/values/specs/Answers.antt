@@ -1,8 +1,8 @@
 -- What each answer of the code says.
 use Prim.Native.Nat.{ℕ}
 use mathlib.Core.Option.{Option, some}
-use Rattle.wire.specs.Outcome.{pass, fail, _>>=_, Judged, Rule}
-use Rattle.wire.specs.Bytes.{Bytes}
+use Rattle.varint.specs.Outcome.{pass, fail, _>>=_, Judged, Rule}
+use Rattle.varint.specs.Bytes.{Bytes}
 use Rattle.wire.specs.Message.{Message, firstOf}
 use Rattle.wire.specs.declared.Field.{Field}
 use Rattle.rules.specs.Walk.{naming}

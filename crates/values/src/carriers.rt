@@ -3,7 +3,7 @@ ghost use mathlib.Core.Path.{_≡_};
 ghost use mathlib.Core.Bool.{not, _&&_, _||_};
 ghost use mathlib.Core.Option.{none, some};
 ghost use lib.Dec.{eqb};
-ghost use Rattle.wire.specs.Lists.{contains, lookup};
+ghost use Rattle.varint.specs.Lists.{contains, lookup};
 ghost use Rattle.wire.specs.Message.{numberOf, message};
 ghost use Rattle.schema.specs.Numbers.{Attribute·type, Attribute·g, Attribute·graphs};
 ghost use Rattle.rules.specs.Node.{carriers, carrierNumbers, needed, foreign, badValue};

@@ -14,7 +14,7 @@ pub use names::read_name;
 pub use rulings::refused;
 pub use types::is_element;
 pub use types::main_type;
-use wire::Refusal;
+use varint::Refusal;
 
 // A rule is kept, or is the first to be broken.
 pub enum Ruling {

@@ -1,13 +1,13 @@
 // The names of messages.
 ghost use mathlib.Core.Path.{_≡_};
-ghost use Rattle.wire.specs.Outcome.{refused};
+ghost use Rattle.varint.specs.Outcome.{refused};
 ghost use Rattle.wire.specs.Message.{message};
 ghost use Rattle.schema.specs.Answers.{silent};
 ghost use Rattle.values.specs.Answers.{rulingSays, namingSays, nameField};
 use crate::Ruling;
 use rules::is_identifier;
+use varint::Refusal;
 use wire::Field;
-use wire::Refusal;
 use wire::Sought;
 
 // The field that holds a name which may stand, or why it may not.

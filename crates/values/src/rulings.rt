@@ -1,9 +1,9 @@
 // Answers of the rules.
 ghost use mathlib.Core.Path.{_≡_};
-ghost use Rattle.wire.specs.Outcome.{refused};
+ghost use Rattle.varint.specs.Outcome.{refused};
 ghost use Rattle.values.specs.Answers.{rulingSays};
 use crate::Ruling;
-use wire::Refusal;
+use varint::Refusal;
 
 pub fn refused(number: u8, place: usize) -> Ruling
     ensures { λ r. ⌜ rulingSays r ≡ refused number place ⌝ }

@@ -1,7 +1,7 @@
 // "Type: 24, 25, 37, then each dim: 38 for a negative dim_value, 21 for a dim_param that is present (an empty one included). A
 // dim may have neither."
 ghost use mathlib.Core.Path.{_≡_};
-ghost use Rattle.wire.specs.Outcome.{each};
+ghost use Rattle.varint.specs.Outcome.{each};
 ghost use Rattle.wire.specs.Message.{allOf, message};
 ghost use Rattle.schema.specs.Numbers.{Shape·dim};
 ghost use Rattle.rules.specs.Walk.{Context, inMain};

@@ -6,19 +6,19 @@ use mathlib.Core.Bool.{Bool, true, false}
 use lib.ListN.{length}
 use lib.Dec.{leb, le→leb}
 use mir.Facts.{no-leb}
-use Rattle.wire.specs.Outcome.{pass, fail, Judged, Rule}
-use Rattle.wire.specs.Bytes.{Bytes}
-use Rattle.wire.specs.Wire.{varint}
-use Rattle.wire.specs.Answers.{varintSays}
-use Rattle.wire.specs.declared.Refusal.{Refusal}
-use Rattle.wire.specs.declared.Varint.{Varint}
-use Rattle.wire.specs.declared.VarintAnswer.{VarintAnswer}
-use Rattle.wire.specs.declared.VarintAnswer.the-variants as varint-answer
-use Rattle.wire.proofs.Lists.{T-true, T-false}
-use Rattle.wire.proofs.Tells.{Tells}
-use Rattle.wire.proofs.Passing.{passed-tells}
+use Rattle.varint.specs.Outcome.{pass, fail, Judged, Rule}
+use Rattle.varint.specs.Bytes.{Bytes}
+use Rattle.varint.specs.Varint.{varint}
+use Rattle.varint.specs.Answers.{varintSays}
+use Rattle.varint.specs.declared.Refusal.{Refusal}
+use Rattle.varint.specs.declared.Varint.{Varint}
+use Rattle.varint.specs.declared.VarintAnswer.{VarintAnswer}
+use Rattle.varint.specs.declared.VarintAnswer.the-variants as varint-answer
+use Rattle.varint.proofs.Lists.{T-true, T-false}
+use Rattle.varint.proofs.Tells.{Tells}
+use Rattle.varint.proofs.Passing.{passed-tells}
 use Rattle.wire.proofs.Reading.{AtTag, varint-tells}
-use Rattle.wire.proofs.CursorLaws.{says}
+use Rattle.varint.proofs.Answers.{says}
 use Rattle.schema.specs.Answers.{walkSays}
 use Rattle.schema.specs.declared.WalkAnswer.{WalkAnswer}
 use Rattle.schema.specs.declared.WalkAnswer.the-variants as walk-answer

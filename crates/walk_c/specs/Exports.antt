@@ -3,9 +3,9 @@ use Prim.Native.Nat.{ℕ, zero, suc}
 use mathlib.Core.Bool.{true, false}
 use lib.ListN.{length}
 use lib.Dec.{leb}
-use Rattle.wire.specs.Outcome.{pass, fail, Rule}
-use Rattle.wire.specs.Bytes.{Bytes}
-use Rattle.wire.specs.Wire.{varint}
+use Rattle.varint.specs.Outcome.{pass, fail, Rule}
+use Rattle.varint.specs.Bytes.{Bytes}
+use Rattle.varint.specs.Varint.{varint}
 use Rattle.walk_c.specs.declared.Answer.{Answer}
 
 -- Document 01's number and place of a refusal, and two zeros for none.

@@ -2,8 +2,8 @@
 use Prim.Native.Nat.{ℕ}
 use mathlib.Core.Path.{_≡_, refl}
 use mathlib.Core.List.{List, [], _∷_, map}
-use Rattle.wire.specs.Bytes.{Bytes}
-use Rattle.wire.specs.Notation.{hex, Notation·computes}
+use Rattle.varint.specs.Bytes.{Bytes}
+use Rattle.varint.specs.Notation.{hex, Notation·computes}
 use Rattle.schema.specs.FirstWalk.{firstWalk, FirstWalk·computes}
 use Rattle.walk_c.specs.declared.Answer.{Answer}
 use Rattle.walk_c.specs.Exports.{answered, countFrom, varintCount}

@@ -4,8 +4,8 @@ ghost use Rattle.schema.specs.FirstWalk.{firstWalk};
 ghost use Rattle.walk_c.specs.Exports.{answered, varintCount};
 use schema::WalkAnswer;
 use schema::first_walk;
-use wire::VarintAnswer;
-use wire::read_varint;
+use varint::VarintAnswer;
+use varint::read_varint;
 
 // The number and the place of document 01, both 0 where the walk passes.
 #[repr(C)]

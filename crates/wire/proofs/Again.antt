@@ -5,9 +5,10 @@ use mathlib.Core.Path.{_≡_, refl}
 use mathlib.Core.Bool.{Bool, true, false, not}
 use lib.Dec.{T, ltb, eqb, nleb→lt, nltb→le}
 use mir.Facts.{no-leb}
-use Rattle.wire.specs.Outcome.{pass, fail, _>>=_, _>>_, Judged, refuse_at:_when:_}
-use Rattle.wire.specs.Bytes.{Bytes, byte}
-use Rattle.wire.specs.Wire.{varintFrom, varint, tag, sized, value, field}
+use Rattle.varint.specs.Outcome.{pass, fail, _>>=_, _>>_, Judged, refuse_at:_when:_}
+use Rattle.varint.specs.Bytes.{Bytes, byte}
+use Rattle.varint.specs.Varint.{varintFrom, varint}
+use Rattle.wire.specs.Wire.{tag, sized, value, field}
 use Rattle.wire.specs.declared.Tag.{Tag}
 
 -- the second reading gives what the first one gave

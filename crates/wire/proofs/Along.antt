@@ -6,21 +6,21 @@ use mathlib.Core.Bool.{Bool, true, false}
 use mathlib.Core.List.{List, [], _∷_}
 use mathlib.Core.Option.{Option, none, some}
 use lib.Dec.{leb, eqb}
-use Rattle.wire.specs.Outcome.{pass, fail, _>>=_, each, Judged}
-use Rattle.wire.specs.Lists.{first, keep}
-use Rattle.wire.specs.Bytes.{Bytes}
+use Rattle.varint.specs.Outcome.{pass, fail, _>>=_, each, Judged}
+use Rattle.varint.specs.Lists.{first, keep}
+use Rattle.varint.specs.Bytes.{Bytes}
 use Rattle.wire.specs.Wire.{field, fieldsFrom, fields}
 use Rattle.wire.specs.Message.{allOf, message}
 use Rattle.wire.specs.Answers.{soughtSays, contentsOf, after, foundIn, soughtIn}
-use Rattle.wire.specs.declared.Refusal.{Refusal}
+use Rattle.varint.specs.declared.Refusal.{Refusal}
 use Rattle.wire.specs.declared.Field.{Field}
 use Rattle.wire.specs.declared.Cursor.{Cursor}
 use Rattle.wire.specs.declared.Sought.{Sought}
 use Rattle.wire.specs.declared.Sought.the-variants as sought
-use Rattle.wire.proofs.Tells.{Tells}
+use Rattle.varint.proofs.Tells.{Tells}
 use Rattle.wire.proofs.Reading.{Fits, AtTag, field-tells, field-placed}
 use Rattle.wire.proofs.Fields.{fields-bound}
-use Rattle.wire.proofs.CursorLaws.{says}
+use Rattle.varint.proofs.Answers.{says}
 
 module _ (s : Bytes) (number end : ℕ) where
   -- the fields with this number from `pos` on

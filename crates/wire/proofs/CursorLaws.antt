@@ -6,29 +6,28 @@ use mathlib.Core.Bool.{Bool, true, false, not, _||_}
 use mathlib.Core.Option.{none, some}
 use lib.Dec.{eqb}
 use borrow.Author.Tests.{lt-ltb, le-ltb, eq-eqb, ne-eqb, lt-leb}
-use Rattle.wire.specs.Outcome.{pass, fail, _>>=_, _>>_, Judged, refused, refuse_at:_when:_}
-use Rattle.wire.specs.Lists.{first, keep, contains}
-use Rattle.wire.specs.Bytes.{Bytes}
-use Rattle.wire.specs.Wire.{varint, badTag, tag, sized, value, field}
-use Rattle.wire.specs.Answers.{varintSays, tagSays, fieldSays, after, withCursor, foundIn, soughtIn}
-use Rattle.wire.specs.declared.Refusal.{Refusal}
-use Rattle.wire.specs.declared.Varint.{Varint}
+use Rattle.varint.specs.Outcome.{pass, fail, _>>=_, _>>_, Judged, refused, refuse_at:_when:_}
+use Rattle.varint.specs.Lists.{first, keep, contains}
+use Rattle.varint.specs.Bytes.{Bytes}
+use Rattle.varint.specs.Varint.{varint}
+use Rattle.wire.specs.Wire.{badTag, tag, sized, value, field}
+use Rattle.varint.specs.Answers.{varintSays}
+use Rattle.wire.specs.Answers.{tagSays, fieldSays, after, withCursor, foundIn, soughtIn}
+use Rattle.varint.specs.declared.Refusal.{Refusal}
+use Rattle.varint.specs.declared.Varint.{Varint}
 use Rattle.wire.specs.declared.Tag.{Tag}
 use Rattle.wire.specs.declared.Field.{Field}
 use Rattle.wire.specs.declared.Cursor.{Cursor}
-use Rattle.wire.specs.declared.VarintAnswer.{VarintAnswer}
-use Rattle.wire.specs.declared.VarintAnswer.the-variants as varint-answer
+use Rattle.varint.specs.declared.VarintAnswer.{VarintAnswer}
+use Rattle.varint.specs.declared.VarintAnswer.the-variants as varint-answer
 use Rattle.wire.specs.declared.TagAnswer.{TagAnswer}
 use Rattle.wire.specs.declared.TagAnswer.the-variants as tag-answer
 use Rattle.wire.specs.declared.FieldAnswer.{FieldAnswer}
 use Rattle.wire.specs.declared.FieldAnswer.the-variants as field-answer
-use Rattle.wire.proofs.Passing.{fail-no-pass, pass-same}
+use Rattle.varint.proofs.Answers.{says}
+use Rattle.varint.proofs.Passing.{fail-no-pass, pass-same}
 use Rattle.wire.proofs.Reading.{Fits, field-tells}
 use Rattle.wire.proofs.Fields.{fields-done, fields-step, fields-stop}
-
--- what an answer says, where it is known which variant it is
-pub says : {A B : Type 0} (f : A → B) {r v : A} {o : B} → f r ≡ o → r ≡ v → f v ≡ o
-says f h k = ap f (sym k) ∙ h
 
 -- ---- a tag
 

@@ -6,16 +6,16 @@ use mathlib.Core.Bool.{Bool, true, false}
 use mathlib.Core.List.{List, [], _∷_, _++_, flatMap}
 use lib.Dec.{leb, le→leb}
 use mir.Facts.{no-leb}
-use Rattle.wire.specs.Outcome.{pass, fail, Judged}
-use Rattle.wire.specs.declared.Refusal.{Refusal}
-use Rattle.wire.specs.Lists.{keep}
-use Rattle.wire.specs.Bytes.{Bytes}
+use Rattle.varint.specs.Outcome.{pass, fail, Judged}
+use Rattle.varint.specs.declared.Refusal.{Refusal}
+use Rattle.varint.specs.Lists.{keep}
+use Rattle.varint.specs.Bytes.{Bytes}
 use Rattle.wire.specs.Wire.{field, fieldsFrom, fields}
 use Rattle.wire.specs.Message.{message, allOf}
 use Rattle.wire.specs.Order.{Ordered}
 use Rattle.wire.specs.declared.Field.{Field}
-use Rattle.wire.proofs.Tells.{Tells}
-use Rattle.wire.proofs.Lists.{T-true, T-false, All}
+use Rattle.varint.proofs.Tells.{Tells}
+use Rattle.varint.proofs.Lists.{T-true, T-false, All}
 use Rattle.wire.proofs.Reading.{Fits, AtTag, field-tells}
 
 module _ (model : Bytes) where

@@ -1,16 +1,9 @@
-pub mod Tells
-pub mod Lists
-pub mod Bytes
-pub mod Passing
 pub mod Reading
 pub mod Fields
 pub mod Again
-pub mod VarintLaws
-pub mod SliceLaws
 pub mod CursorLaws
 pub mod ShortLaws
 pub mod QuickLaws
-pub mod Refusing
 pub mod MessageLaws
 pub mod Along
 pub mod OutlineLaws

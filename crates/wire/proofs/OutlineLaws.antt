@@ -7,14 +7,14 @@ use mathlib.Core.List.{List, [], _∷_}
 use mathlib.Core.Option.{Option, none, some}
 use lib.Dec.{eqb, ltb}
 use borrow.Author.Tests.{ltb-true, ltb-false, lt-ltb, le-ltb, eq-eqb, ne-eqb}
-use Rattle.wire.specs.Outcome.{pass}
-use Rattle.wire.specs.Lists.{first, keep}
-use Rattle.wire.specs.Bytes.{Bytes}
+use Rattle.varint.specs.Outcome.{pass}
+use Rattle.varint.specs.Lists.{first, keep}
+use Rattle.varint.specs.Bytes.{Bytes}
 use Rattle.wire.specs.Wire.{field, fields}
 use Rattle.wire.specs.Message.{allOf, firstOf, message}
 use Rattle.wire.specs.Answers.{soughtSays, contentsOf, fieldSays, withCursor, foundIn, soughtIn}
 use Rattle.wire.specs.Outline.{startOf, Starts, Outlines, marked}
-use Rattle.wire.specs.declared.Refusal.{Refusal}
+use Rattle.varint.specs.declared.Refusal.{Refusal}
 use Rattle.wire.specs.declared.Field.{Field}
 use Rattle.wire.specs.declared.Cursor.{Cursor}
 use Rattle.wire.specs.declared.FieldAnswer.{FieldAnswer}
@@ -23,7 +23,7 @@ use Rattle.wire.specs.declared.Sought.{Sought}
 use Rattle.wire.specs.declared.outlines.Outline.{Outline}
 use Rattle.wire.proofs.Fields.{fields-done, fields-step, fields-stop}
 use Rattle.wire.proofs.Reading.{Fits, AtTag, field-tells, field-placed}
-use Rattle.wire.proofs.Passing.{passed-tells}
+use Rattle.varint.proofs.Passing.{passed-tells}
 use Rattle.wire.proofs.CursorLaws.{answer-read, answer-refused}
 
 -- the fields of a number from a place on

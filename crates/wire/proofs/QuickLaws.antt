@@ -6,23 +6,25 @@ use mathlib.Core.Logic.{inr}
 use mathlib.Core.Bool.{Bool, true, false, _||_}
 use lib.Dec.{eqb}
 use borrow.Author.Tests.{ne-eqb}
-use Rattle.wire.specs.Outcome.{pass, _>>=_, _>>_, Judged, refuse_at:_when:_}
-use Rattle.wire.specs.Lists.{contains}
-use Rattle.wire.specs.Bytes.{Bytes, byte}
-use Rattle.wire.specs.Wire.{varint, tag, sized, value, field}
-use Rattle.wire.specs.Answers.{varintSays, fieldSays, withCursor, after}
+use Rattle.varint.specs.Outcome.{pass, _>>=_, _>>_, Judged, refuse_at:_when:_}
+use Rattle.varint.specs.Lists.{contains}
+use Rattle.varint.specs.Bytes.{Bytes, byte}
+use Rattle.varint.specs.Varint.{varint}
+use Rattle.wire.specs.Wire.{tag, sized, value, field}
+use Rattle.varint.specs.Answers.{varintSays}
+use Rattle.wire.specs.Answers.{fieldSays, withCursor, after}
 use Rattle.wire.specs.Quick.{Few, Many, wires, QuickTag, Fixed, QuickValue, fieldOf, Long}
-use Rattle.wire.specs.declared.Refusal.{Refusal}
-use Rattle.wire.specs.declared.Varint.{Varint}
+use Rattle.varint.specs.declared.Refusal.{Refusal}
+use Rattle.varint.specs.declared.Varint.{Varint}
 use Rattle.wire.specs.declared.Tag.{Tag}
 use Rattle.wire.specs.declared.Field.{Field}
-use Rattle.wire.specs.declared.VarintAnswer.{VarintAnswer}
-use Rattle.wire.specs.declared.VarintAnswer.the-variants as varint-answer
+use Rattle.varint.specs.declared.VarintAnswer.{VarintAnswer}
+use Rattle.varint.specs.declared.VarintAnswer.the-variants as varint-answer
 use Rattle.wire.specs.declared.FieldAnswer.the-variants as field-answer
-use Rattle.wire.proofs.Passing.{fail-no-pass, pass-same}
-use Rattle.wire.proofs.CursorLaws.{says}
+use Rattle.varint.proofs.Passing.{fail-no-pass, pass-same}
+use Rattle.varint.proofs.Answers.{says}
 use Rattle.wire.proofs.ShortLaws.{good-tag, sized-made}
-use Rattle.wire.proofs.VarintLaws.{one-byte, Reading, reading-start, turn-more, turn-last, Going, go-start, go-more, go-last, go-end}
+use Rattle.varint.proofs.VarintLaws.{one-byte, Reading, reading-start, turn-more, turn-last, Going, go-start, go-more, go-last, go-end}
 
 -- ---- a varint of one to three bytes
 

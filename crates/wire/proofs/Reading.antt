@@ -4,15 +4,16 @@ use native.Mathlib.Omega.{arith}
 use mathlib.Core.Path.{_≡_, refl}
 use mathlib.Core.List.{List, [], _∷_}
 use lib.Dec.{ltb, eqb, nltb→le}
-use Rattle.wire.specs.Outcome.{pass, fail, _>>=_, Judged}
-use Rattle.wire.specs.declared.Refusal.{Refusal}
-use Rattle.wire.specs.Lists.{contains}
-use Rattle.wire.specs.Bytes.{Bytes, byte}
-use Rattle.wire.specs.Wire.{varintFrom, varint, tag, sized, value, field}
-use Rattle.wire.specs.declared.Varint.{Varint}
+use Rattle.varint.specs.Outcome.{pass, fail, _>>=_, Judged}
+use Rattle.varint.specs.declared.Refusal.{Refusal}
+use Rattle.varint.specs.Lists.{contains}
+use Rattle.varint.specs.Bytes.{Bytes, byte}
+use Rattle.varint.specs.Varint.{varintFrom, varint}
+use Rattle.wire.specs.Wire.{tag, sized, value, field}
+use Rattle.varint.specs.declared.Varint.{Varint}
 use Rattle.wire.specs.declared.Tag.{Tag}
 use Rattle.wire.specs.declared.Field.{Field}
-use Rattle.wire.proofs.Tells.{Tells, Among, tells-bind, tells-rule, tells-if}
+use Rattle.varint.proofs.Tells.{Tells, Among, tells-bind, tells-rule, tells-if}
 
 -- the refusals of a reader, at the place of the tag
 abbrev pub Wire·refusals : List ℕ

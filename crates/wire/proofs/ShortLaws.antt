@@ -7,16 +7,17 @@ use mathlib.Core.List.{[], _∷_}
 use lib.Dec.{eqb}
 use lib.ListN.{length}
 use borrow.Author.Tests.{le-ltb, ne-eqb, lt-leb}
-use Rattle.wire.specs.Outcome.{pass, _>>=_, _>>_, Judged, refuse_at:_when:_}
-use Rattle.wire.specs.Lists.{contains}
-use Rattle.wire.specs.Bytes.{Bytes, byte}
-use Rattle.wire.specs.Wire.{varint, badTag, tag, sized, value, field}
+use Rattle.varint.specs.Outcome.{pass, _>>=_, _>>_, Judged, refuse_at:_when:_}
+use Rattle.varint.specs.Lists.{contains}
+use Rattle.varint.specs.Bytes.{Bytes, byte}
+use Rattle.varint.specs.Varint.{varint}
+use Rattle.wire.specs.Wire.{badTag, tag, sized, value, field}
 use Rattle.wire.specs.Answers.{fieldSays, withCursor, after}
 use Rattle.wire.specs.Short.{Short, shortField}
 use Rattle.wire.specs.declared.Tag.{Tag}
 use Rattle.wire.specs.declared.Field.{Field}
 use Rattle.wire.specs.declared.FieldAnswer.the-variants as field-answer
-use Rattle.wire.proofs.VarintLaws.{one-byte}
+use Rattle.varint.proofs.VarintLaws.{one-byte}
 
 pub good-tag : (t w : ℕ) → 8 ≤ t → t < 2 ^ 32 → t % 8 ≡ w → contains w (0 ∷ 1 ∷ 2 ∷ 5 ∷ []) ≡ true → badTag t ≡ false
 unfolding badTag

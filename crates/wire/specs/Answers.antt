@@ -2,26 +2,19 @@
 use Prim.Native.Nat.{ℕ}
 use mathlib.Core.Option.{Option, none, some}
 use lib.Dec.{eqb}
-use Rattle.wire.specs.Outcome.{pass, fail, _>>=_, Judged}
-use Rattle.wire.specs.Lists.{first, keep}
-use Rattle.wire.specs.Bytes.{Bytes}
+use Rattle.varint.specs.Outcome.{pass, fail, _>>=_, Judged}
+use Rattle.varint.specs.Lists.{first, keep}
+use Rattle.varint.specs.Bytes.{Bytes}
 use Rattle.wire.specs.Wire.{fields}
-use Rattle.wire.specs.declared.Varint.{Varint}
 use Rattle.wire.specs.declared.Tag.{Tag}
 use Rattle.wire.specs.declared.Field.{Field}
 use Rattle.wire.specs.declared.Cursor.{Cursor}
-use Rattle.wire.specs.declared.VarintAnswer.{VarintAnswer}
-use Rattle.wire.specs.declared.VarintAnswer.the-variants as varint
 use Rattle.wire.specs.declared.TagAnswer.{TagAnswer}
 use Rattle.wire.specs.declared.TagAnswer.the-variants as tag
 use Rattle.wire.specs.declared.FieldAnswer.{FieldAnswer}
 use Rattle.wire.specs.declared.FieldAnswer.the-variants as field
 use Rattle.wire.specs.declared.Sought.{Sought}
 use Rattle.wire.specs.declared.Sought.the-variants as sought
-
-unfoldable pub varintSays : VarintAnswer → Judged Varint
-varintSays (varint.Read v) = pass v
-varintSays (varint.Refused r) = fail r
 
 unfoldable pub tagSays : TagAnswer → Judged Tag
 tagSays (tag.Read t) = pass t

@@ -1,13 +1,8 @@
-pub mod Outcome
-pub mod Lists
-pub mod Bytes
-pub mod Words
 pub mod Wire
 pub mod Answers
 pub mod Short
 pub mod Quick
 pub mod Message
 pub mod Order
-pub mod Notation
 pub mod Samples
 pub mod Outline

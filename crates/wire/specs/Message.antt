@@ -4,8 +4,8 @@ use mathlib.Core.List.{List, []}
 use mathlib.Core.Option.{Option, none, some}
 use lib.ListN.{length}
 use lib.Dec.{eqb}
-use Rattle.wire.specs.Lists.{first, keep}
-use Rattle.wire.specs.Bytes.{Bytes, part}
+use Rattle.varint.specs.Lists.{first, keep}
+use Rattle.varint.specs.Bytes.{Bytes, part}
 use Rattle.wire.specs.Wire.{LEN, fields, Wire·computes}
 use Rattle.wire.specs.declared.Field.{Field}
 

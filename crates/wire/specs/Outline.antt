@@ -4,8 +4,8 @@ use mathlib.Core.Path.{_≡_}
 use mathlib.Core.Bool.{true, false}
 use mathlib.Core.Option.{none, some}
 use lib.Dec.{eqb, ltb}
-use Rattle.wire.specs.Lists.{keep}
-use Rattle.wire.specs.Bytes.{Bytes}
+use Rattle.varint.specs.Lists.{keep}
+use Rattle.varint.specs.Bytes.{Bytes}
 use Rattle.wire.specs.Wire.{fields}
 use Rattle.wire.specs.Message.{allOf, firstOf, message}
 use Rattle.wire.specs.declared.Field.{Field}

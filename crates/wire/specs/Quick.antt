@@ -3,11 +3,12 @@ use Prim.Native.Nat.{ℕ, _^_, _≤_, _<_}
 use mathlib.Core.Path.{_≡_}
 use mathlib.Core.Bool.{true}
 use mathlib.Core.List.{List, [], _∷_}
-use Rattle.wire.specs.Outcome.{pass}
-use Rattle.wire.specs.Lists.{contains}
-use Rattle.wire.specs.Bytes.{Bytes}
-use Rattle.wire.specs.Wire.{VARINT, I64, LEN, I32, varint, tag, sized, value}
-use Rattle.wire.specs.declared.Varint.{Varint}
+use Rattle.varint.specs.Outcome.{pass}
+use Rattle.varint.specs.Lists.{contains}
+use Rattle.varint.specs.Bytes.{Bytes}
+use Rattle.varint.specs.Varint.{varint}
+use Rattle.wire.specs.Wire.{VARINT, I64, LEN, I32, tag, sized, value}
+use Rattle.varint.specs.declared.Varint.{Varint}
 use Rattle.wire.specs.declared.Tag.{Tag}
 use Rattle.wire.specs.declared.Field.{Field}
 

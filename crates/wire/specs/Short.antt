@@ -4,8 +4,8 @@ use mathlib.Core.Path.{_≡_}
 use mathlib.Core.Bool.{true, false}
 use lib.Dec.{eqb}
 use lib.ListN.{length}
-use Rattle.wire.specs.Outcome.{pass}
-use Rattle.wire.specs.Bytes.{Bytes, byte}
+use Rattle.varint.specs.Outcome.{pass}
+use Rattle.varint.specs.Bytes.{Bytes, byte}
 use Rattle.wire.specs.Wire.{VARINT, field}
 use Rattle.wire.specs.declared.Field.{Field}
 

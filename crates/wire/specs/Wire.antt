@@ -1,14 +1,14 @@
--- Document 01, "First walk: the wire": varints, tags, values and fields, with no regard to what a field means.
+-- Document 01, "First walk: the wire": tags, values and fields, with no regard to what a field means.
 -- A position is always one in the whole model: `pos` is where something begins, `end` where the enclosing message ends.
--- Varint, Tag and Field are the structs of the code. A refusal in a field names the place of its tag.
-use Prim.Native.Nat.{ℕ, zero, suc, _+_, _-_, _*_, _/_, _%_, _^_}
-use mathlib.Core.Bool.{Bool, true, false, not, _&&_, _||_}
+-- Tag and Field are the structs of the code. A refusal in a field names the place of its tag.
+use Prim.Native.Nat.{ℕ, zero, suc, _+_, _-_, _/_, _%_, _^_}
+use mathlib.Core.Bool.{Bool, true, false, not, _||_}
 use mathlib.Core.List.{List, [], _∷_}
 use lib.Dec.{leb, ltb, eqb}
-use Rattle.wire.specs.Outcome.{pass, fail, _>>=_, _>>_, Judged, refused, refuse_at:_when:_, Outcome·computes}
-use Rattle.wire.specs.Lists.{contains, Lists·computes}
-use Rattle.wire.specs.Bytes.{Bytes, byte, Bytes·computes}
-use Rattle.wire.specs.declared.Varint.{Varint}
+use Rattle.varint.specs.Outcome.{pass, fail, _>>=_, _>>_, Judged, refuse_at:_when:_}
+use Rattle.varint.specs.Lists.{contains, Lists·computes}
+use Rattle.varint.specs.Bytes.{Bytes}
+use Rattle.varint.specs.Varint.{varint, Varint·computes}
 use Rattle.wire.specs.declared.Tag.{Tag}
 use Rattle.wire.specs.declared.Field.{Field}
 
@@ -43,26 +43,9 @@ sized t end value start size = do
   })
 
 module _ (model : Bytes) where
-  -- "A varint has at most ten bytes, lowest seven bits first; the tenth is 0 or 1. Padded ones pass." `left` bytes may
-  -- still come.
-  unfoldable pub varintFrom : (left place end pos : ℕ) → Judged Varint
-  varintFrom zero place end pos = refused 2 place
-  varintFrom (suc left) place end pos = do
-    refuse 1 at: place when: leb end pos
-    refuse 2 at: place when: (eqb left 0 && ltb 1 (byte model pos))
-    elim (ltb (byte model pos) 128) [
-      | true ↦ pass (record { value = byte model pos; next = pos + 1 })
-      | false ↦ do
-        high ← varintFrom left place end (pos + 1)
-        pass (record { value = byte model pos % 128 + 128 * high .value; next = high .next })
-    ]
-
-  unfoldable pub varint : (place end pos : ℕ) → Judged Varint
-  varint place end pos = varintFrom 10 place end pos
-
   unfoldable pub tag : (end pos : ℕ) → Judged Tag
   tag end pos = do
-    t ← varint pos end pos
+    t ← varint model pos end pos
     refuse 3 at: pos when: badTag (t .value)
     pass (record { place = pos; number = t .value / 8; wire = t .value % 8; next = t .next })
 
@@ -70,11 +53,11 @@ module _ (model : Bytes) where
   unfoldable pub value : Tag → (end : ℕ) → Judged Field
   value t end = elim (eqb (t .wire) VARINT) [
     | true ↦ do
-      v ← varint (t .place) end (t .next)
+      v ← varint model (t .place) end (t .next)
       sized t end (v .value) (v .next) 0
     | false ↦ elim (eqb (t .wire) LEN) [
       | true ↦ do
-        v ← varint (t .place) end (t .next)
+        v ← varint model (t .place) end (t .next)
         sized t end 0 (v .next) (v .value)
       | false ↦ elim (eqb (t .wire) I64) [ true ↦ sized t end 0 (t .next) 8 | false ↦ sized t end 0 (t .next) 4 ]
     ]
@@ -99,5 +82,5 @@ module _ (model : Bytes) where
 
 -- This file and what it is built on, for whoever computes with it.
 unfoldable pub Wire·computes : Unit {0}
-unfolding Outcome·computes Lists·computes Bytes·computes badTag sized varintFrom varint tag value field fieldsFrom fields
+unfolding Lists·computes Varint·computes badTag sized tag value field fieldsFrom fields
 Wire·computes = tt

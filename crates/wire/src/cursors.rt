@@ -1,18 +1,16 @@
 // A cursor's methods take it by value and hand back the next one inside the answer. "A reading place moves on by whole fields."
 ghost use mathlib.Core.Path.{_≡_};
-ghost use Rattle.wire.specs.Outcome.{refused};
+ghost use Rattle.varint.specs.Outcome.{refused};
 ghost use Rattle.wire.specs.Wire.{badTag, tag, sized, value, field};
 ghost use Rattle.wire.specs.Answers.{tagSays, fieldSays, withCursor, soughtSays, soughtIn};
-ghost use Rattle.wire.specs.Lists.{contains};
+ghost use Rattle.varint.specs.Lists.{contains};
 ghost use Rattle.wire.specs.Quick.{wires};
 use crate::Cursor;
 use crate::Field;
 use crate::FieldAnswer;
-use crate::Refusal;
 use crate::Sought;
 use crate::Tag;
 use crate::TagAnswer;
-use crate::VarintAnswer;
 use crate::quick::field_of;
 use crate::quick::long_end;
 use crate::quick::number_at;
@@ -20,7 +18,9 @@ use crate::quick::quick_tag;
 use crate::quick::quick_value;
 use crate::quick::short_field;
 use crate::quick::short_size;
-use crate::varints::read_varint;
+use varint::Refusal;
+use varint::VarintAnswer;
+use varint::read_varint;
 
 // The wire types: varint, eight bytes, length and contents, four bytes.
 pub(crate) const VARINT: u64 = 0;

@@ -1,28 +1,13 @@
-// The wire of Protocol Buffers, read where it stands: varints, tags, fields, and the parts of a message. Nothing is copied or
+// The wire of Protocol Buffers, read where it stands: tags, fields, and the parts of a message. Nothing is copied or
 // decoded ahead, and every function answers for any bytes and any numbers. What the answers mean stands in specs/.
 mod cursors;
 mod messages;
 mod outlines;
 mod quick;
-mod slices;
-mod varints;
+mod shorts;
 
 pub use outlines::Outline;
-pub use slices::between;
-pub use slices::same_bytes;
-pub use varints::read_varint;
-
-// A refusal of document 01: its number, and its place in the model.
-pub struct Refusal {
-    pub number: u8,
-    pub place: usize,
-}
-
-// A varint that was read: its value, and where it ends.
-pub struct Varint {
-    pub value: u64,
-    pub next: usize,
-}
+use varint::Refusal;
 
 // A tag that was read: where it begins, its field number and wire type, and where it ends.
 pub struct Tag {
@@ -49,11 +34,6 @@ pub struct Cursor {
     pub end: usize,
 }
 
-pub enum VarintAnswer {
-    Read(Varint),
-    Refused(Refusal),
-}
-
 pub enum TagAnswer {
     Read(Tag),
     Refused(Refusal),
@@ -69,13 +49,4 @@ pub enum FieldAnswer {
 pub enum Sought {
     Found(Field, Cursor),
     Missing,
-}
-
-// The numbers of document 01's table that this crate refuses with.
-impl Refusal {
-    pub const PAST_END: u8 = 1;
-
-    pub const TENTH_BYTE: u8 = 2;
-
-    pub const BAD_TAG: u8 = 3;
 }

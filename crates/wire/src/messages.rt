@@ -1,11 +1,11 @@
 // The message that a field holds, its fields by number. "An absent number reads as 0, absent bytes as empty."
 ghost use mathlib.Core.Path.{_≡_};
-ghost use Rattle.wire.specs.Message.{firstOf, numberOf, placeOf, bytesOf, message};
+ghost use Rattle.wire.specs.Message.{firstOf, numberOf, placeOf, text, bytesOf, message};
 ghost use Rattle.wire.specs.Answers.{contentsOf, soughtSays, foundIn};
 use crate::Cursor;
 use crate::Field;
 use crate::Sought;
-use crate::slices::between;
+use varint::between;
 
 impl Field {
     // The message that the field holds, from its start to its end.
@@ -16,6 +16,15 @@ impl Field {
             at: self.start,
             end: self.next,
         }
+    }
+
+    // The bytes of a field's contents.
+    pub fn text(self, s: &[u8]) -> &[u8]
+        ensures { λ r. ⌜ now r ≡ text (now (s .entry)) self ⌝ }
+    {
+        let start = self.start;
+        let next = self.next;
+        between(s, start, next)
     }
 
     pub fn first_of(self, s: &[u8], number: u64) -> Sought

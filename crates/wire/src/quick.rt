@@ -4,22 +4,22 @@ ghost use mathlib.Core.Path.{_≡_};
 ghost use mathlib.Core.Bool.{true, false};
 ghost use lib.Dec.{eqb};
 ghost use Prim.Native.Nat.{_+_, _%_, _<_, _≤_};
-ghost use Rattle.wire.specs.Outcome.{pass};
-ghost use Rattle.wire.specs.Wire.{varint};
+ghost use Rattle.varint.specs.Outcome.{pass};
+ghost use Rattle.varint.specs.Varint.{varint};
 ghost use Rattle.wire.specs.Short.{Short, shortField};
 ghost use Rattle.wire.specs.Quick.{QuickTag, Fixed, QuickValue, Long, fieldOf};
-ghost use Rattle.wire.specs.declared.Varint.{Varint};
+ghost use Rattle.varint.specs.declared.Varint.{Varint};
 use crate::Field;
 use crate::Tag;
-use crate::VarintAnswer;
 use crate::cursors::I32;
 use crate::cursors::I64;
 use crate::cursors::LEN;
 use crate::cursors::VARINT;
-use crate::varints::few_bytes;
-use crate::varints::many_end;
-use crate::varints::read_varint;
-use crate::varints::wide;
+use crate::shorts::few_bytes;
+use crate::shorts::many_end;
+use varint::VarintAnswer;
+use varint::read_varint;
+use varint::wide;
 
 // The tag at a place, if it has one to three bytes. Its wire type is not looked at.
 pub(crate) fn quick_tag(s: &[u8], at: usize, end: usize) -> Tag

@@ -1,5 +1,5 @@
 use borrow.Author.Needs.{needs}
-use Rattle.wire.specs.Notation.{ascii}
+use Rattle.varint.specs.Notation.{ascii}
 use Rattle.report.proofs.LineLaws.{line-accepted, line-refused}
 use Rattle.report.proofs.line.Statement.{statement}
 use Rattle.report.proofs.line.Tie as tie

@@ -1,7 +1,7 @@
 use Prim.Native.Nat.{_-_}
 use mathlib.Core.Path.{refl, ap, _∙_}
 use mathlib.Core.List.{map}
-use Rattle.wire.specs.Bytes.{same, member}
+use Rattle.varint.specs.Bytes.{same, member}
 use Rattle.wire.specs.Message.{bytesOf, message}
 use Rattle.wire.proofs.Along.{allFrom}
 use Rattle.messages.specs.Earlier.{before}

@@ -1,7 +1,7 @@
 use Prim.Native.Nat.{_-_}
 use mathlib.Core.Path.{ap, _∙_}
 use lib.ListN.{length}
-use Rattle.wire.specs.Bytes.{member}
+use Rattle.varint.specs.Bytes.{member}
 use Rattle.wire.specs.Answers.{contentsOf}
 use Rattle.operators.specs.Operators.{domain}
 use Rattle.schema.specs.Numbers.{Model·opset-import}

@@ -1,6 +1,6 @@
 use Rattle.messages.proofs.ImportLaws.{imports-all}
 use mathlib.Core.Path.{ap, _∙_}
-use Rattle.wire.specs.Bytes.{member}
+use Rattle.varint.specs.Bytes.{member}
 use borrow.Author.Tests.{not-true, not-false}
 use Rattle.messages.proofs.NodeLaws.{head-untyped, head-foreign, head-named}
 use borrow.Author.Needs.{needs}

@@ -2,7 +2,7 @@ use Rattle.rules.specs.Node.{nodeInput}
 use Rattle.scope.specs.Scope.{scopeIn}
 use Prim.Native.Nat.{_-_}
 use mathlib.Core.Path.{sym, _∙_}
-use Rattle.wire.specs.Outcome.{each}
+use Rattle.varint.specs.Outcome.{each}
 use Rattle.wire.proofs.Along.{allFrom, Along, along-start, along-contents, along-done, along-falls}
 use Rattle.schema.specs.Numbers.{Node·input}
 use Rattle.values.specs.Answers.{rulingSays}

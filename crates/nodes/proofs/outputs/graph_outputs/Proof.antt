@@ -1,6 +1,6 @@
 use Prim.Native.Nat.{_-_}
 use mathlib.Core.Path.{refl, sym, _∙_}
-use Rattle.wire.specs.Outcome.{each}
+use Rattle.varint.specs.Outcome.{each}
 use Rattle.wire.proofs.Along.{allFrom, Along, along-start, along-contents, along-done, along-falls}
 use Rattle.schema.specs.Numbers.{Graph·output}
 use Rattle.rules.specs.Graph.{output}

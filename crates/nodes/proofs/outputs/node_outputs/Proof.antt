@@ -2,7 +2,7 @@ use Rattle.scope.proofs.RecallLaws.{recalled-none, recalled-then}
 use Prim.Native.Nat.{_-_}
 use mathlib.Core.Path.{_∙_}
 use lib.ListN.{length}
-use Rattle.wire.specs.Outcome.{each}
+use Rattle.varint.specs.Outcome.{each}
 use Rattle.wire.proofs.Along.{allFrom, along-start, along-contents, contents-inside}
 use Rattle.schema.specs.Numbers.{Node·output}
 use Rattle.rules.specs.Verdict.{fills}

@@ -1,6 +1,6 @@
 use mathlib.Core.Path.{ap₂, _∙_}
 use borrow.Author.Needs.{needs}
-use Rattle.wire.specs.Bytes.{same}
+use Rattle.varint.specs.Bytes.{same}
 use Rattle.operators.proofs.domains.same_domain.Statement.{statement}
 use Rattle.operators.proofs.domains.same_domain.Tie as tie
 

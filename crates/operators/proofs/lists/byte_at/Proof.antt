@@ -3,7 +3,7 @@ use mathlib.Core.Path.{sym, refl}
 use lib.ListN.{List·getD-eq-default}
 use denote.Ref.{now}
 use borrow.Author.Needs.{needs}
-use Rattle.wire.specs.Bytes.{byte}
+use Rattle.varint.specs.Bytes.{byte}
 use Rattle.operators.proofs.lists.byte_at.Statement.{statement}
 use Rattle.operators.proofs.lists.byte_at.Tie as tie
 

@@ -3,7 +3,7 @@ use Prim.Native.Nat.{_-_}
 use native.Mathlib.Nat.{le-trans}
 use mathlib.Core.Path.{refl, _∙_}
 use lib.ListN.{length}
-use Rattle.wire.specs.Outcome.{each}
+use Rattle.varint.specs.Outcome.{each}
 use Rattle.wire.proofs.Along.{allFrom, along-start, along-contents, contents-inside}
 use Rattle.schema.specs.Numbers.{Graph·input}
 use Rattle.rules.specs.Verdict.{fills}

@@ -1,6 +1,6 @@
 use mathlib.Core.List.{[], _∷_}
-use Rattle.wire.specs.Lists.{contains}
-use Rattle.wire.proofs.Lists.{subset}
+use Rattle.varint.specs.Lists.{contains}
+use Rattle.varint.proofs.Lists.{subset}
 use Rattle.schema.specs.declared.Kind.the-variants.{Shape}
 use Rattle.schema.specs.Rows.{Rows·computes}
 use Rattle.schema.proofs.RowLaws.{row-at, row-unknown, numbers}

@@ -1,7 +1,7 @@
 use mathlib.Core.Path.{refl}
 use Rattle.schema.specs.Answers.{walkSays, silent}
 use Rattle.wire.specs.Answers.{fieldSays}
-use Rattle.wire.specs.Outcome.{_>>=_}
+use Rattle.varint.specs.Outcome.{_>>=_}
 use borrow.Author.Needs.{needs}
 use Rattle.schema.proofs.walks.field_fault.Statement.{statement}
 use Rattle.schema.proofs.walks.field_fault.Tie as tie

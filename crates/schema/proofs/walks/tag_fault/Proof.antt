@@ -1,7 +1,7 @@
 use mathlib.Core.Path.{refl}
 use Rattle.schema.specs.Answers.{walkSays, silent}
 use Rattle.wire.specs.Answers.{tagSays}
-use Rattle.wire.specs.Outcome.{_>>=_}
+use Rattle.varint.specs.Outcome.{_>>=_}
 use borrow.Author.Needs.{needs}
 use Rattle.schema.proofs.walks.tag_fault.Statement.{statement}
 use Rattle.schema.proofs.walks.tag_fault.Tie as tie

@@ -1,6 +1,6 @@
 use mathlib.Core.List.{[], _∷_}
-use Rattle.wire.specs.Lists.{contains, lookup}
-use Rattle.wire.proofs.Lists.{subset}
+use Rattle.varint.specs.Lists.{contains, lookup}
+use Rattle.varint.proofs.Lists.{subset}
 use Rattle.rules.specs.Node.{carriers}
 use Rattle.values.proofs.CarrierLaws.{carrier-at, carrier-none}
 use Rattle.values.proofs.carriers.carrier_of.Statement.{statement}

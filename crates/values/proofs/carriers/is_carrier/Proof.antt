@@ -1,6 +1,6 @@
 use mathlib.Core.List.{[], _∷_}
-use Rattle.wire.specs.Lists.{contains}
-use Rattle.wire.proofs.Lists.{subset}
+use Rattle.varint.specs.Lists.{contains}
+use Rattle.varint.proofs.Lists.{subset}
 use Rattle.rules.specs.Node.{carriers, carrierNumbers}
 use Rattle.values.proofs.CarrierLaws.{contains-at, contained-none}
 use Rattle.values.proofs.carriers.is_carrier.Statement.{statement}

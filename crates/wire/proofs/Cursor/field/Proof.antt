@@ -1,5 +1,5 @@
 use Rattle.wire.proofs.ShortLaws.{short-answer}
-use Rattle.wire.proofs.CursorLaws.{says}
+use Rattle.varint.proofs.Answers.{says}
 use Rattle.wire.specs.Answers.{fieldSays}
 use native.Mathlib.Omega.{arith}
 use borrow.Author.Needs.{needs}

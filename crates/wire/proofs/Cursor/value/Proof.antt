@@ -1,5 +1,5 @@
 use Rattle.wire.proofs.QuickLaws.{value-answer, long-answer}
-use Rattle.wire.proofs.CursorLaws.{says}
+use Rattle.varint.proofs.Answers.{says}
 use Rattle.wire.specs.Answers.{fieldSays}
 use borrow.Author.Needs.{needs}
 use Rattle.wire.proofs.Cursor.value.Statement.{statement}

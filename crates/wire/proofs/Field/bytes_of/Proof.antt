@@ -1,6 +1,6 @@
 use mathlib.Core.Path.{_∙_}
 use Rattle.wire.proofs.MessageLaws.{bytes-found, bytes-missing}
-use Rattle.wire.specs.Bytes.{part}
+use Rattle.varint.specs.Bytes.{part}
 use borrow.Author.Needs.{needs}
 use Rattle.wire.proofs.Field.bytes_of.Statement.{statement}
 use Rattle.wire.proofs.Field.bytes_of.Tie as tie

@@ -1,6 +1,6 @@
 use borrow.Author.Tests.{eq-eqb, ne-eqb, le-leb, lt-leb}
 use Rattle.wire.specs.Wire.{badTag}
-use Rattle.wire.specs.Lists.{contains}
+use Rattle.varint.specs.Lists.{contains}
 use Rattle.wire.proofs.CursorLaws.{bad-other}
 use Rattle.wire.proofs.cursors.is_bad_tag.Statement.{statement}
 use Rattle.wire.proofs.cursors.is_bad_tag.Tie as tie

@@ -1,5 +1,5 @@
 use Rattle.wire.proofs.QuickLaws.{no-other-wire}
-use Rattle.wire.specs.Lists.{contains}
+use Rattle.varint.specs.Lists.{contains}
 use borrow.Author.Tests.{eq-eqb, ne-eqb}
 use Rattle.wire.proofs.cursors.is_wire.Statement.{statement}
 use Rattle.wire.proofs.cursors.is_wire.Tie as tie

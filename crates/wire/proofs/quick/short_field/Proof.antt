@@ -1,5 +1,5 @@
 use Rattle.wire.proofs.ShortLaws.{field-said}
-use Rattle.wire.specs.Bytes.{byte}
+use Rattle.varint.specs.Bytes.{byte}
 use borrow.Author.Needs.{needs}
 use Rattle.wire.proofs.quick.short_field.Statement.{statement}
 use Rattle.wire.proofs.quick.short_field.Tie as tie

@@ -1,5 +1,5 @@
 use Rattle.wire.proofs.ShortLaws.{short-number, short-length}
-use Rattle.wire.specs.Bytes.{byte}
+use Rattle.varint.specs.Bytes.{byte}
 use native.Mathlib.Omega.{arith}
 use borrow.Author.Needs.{needs}
 use Rattle.wire.proofs.quick.short_size.Statement.{statement}

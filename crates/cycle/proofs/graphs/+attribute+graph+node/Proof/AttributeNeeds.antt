@@ -3,7 +3,7 @@ use Prim.Native.Nat.{ℕ, _-_}
 use mathlib.Core.Path.{_∙_}
 use lib.ListN.{length}
 use borrow.Author.Tests.{not-true, not-false}
-use Rattle.wire.specs.Outcome.{each}
+use Rattle.varint.specs.Outcome.{each}
 use Rattle.wire.specs.Answers.{contentsOf}
 use Rattle.wire.proofs.Along.{allFrom}
 use Rattle.rules.specs.Node.{body}

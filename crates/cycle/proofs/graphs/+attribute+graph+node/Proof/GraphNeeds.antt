@@ -4,7 +4,7 @@ use native.Mathlib.Omega.{arith}
 use mathlib.Core.Path.{refl, _∙_}
 use denote.Ref.{now}
 use lib.ListN.{length}
-use Rattle.wire.specs.Outcome.{each}
+use Rattle.varint.specs.Outcome.{each}
 use Rattle.wire.specs.Answers.{contentsOf}
 use Rattle.wire.proofs.Along.{allFrom}
 use Rattle.schema.specs.Numbers.{Graph·node, Node·name}

@@ -1,0 +1,8 @@
+pub mod Outcome
+pub mod Lists
+pub mod Bytes
+pub mod Words
+pub mod Varint
+pub mod Answers
+pub mod Notation
+pub mod Samples

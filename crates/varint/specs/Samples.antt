@@ -1,0 +1,32 @@
+-- Worked examples of the Protocol Buffers encoding page, and the ends of the varint, evaluated.
+use Prim.Native.Nat.{ℕ, _^_, _-_}
+use mathlib.Core.Path.{_≡_, refl}
+use mathlib.Core.List.{List, [], _∷_, map}
+use lib.ListN.{length}
+use Rattle.varint.specs.Outcome.{pass, Judged, refused}
+use Rattle.varint.specs.Bytes.{Bytes}
+use Rattle.varint.specs.Varint.{varint, Varint·computes}
+use Rattle.varint.specs.declared.Varint.{Varint}
+use Rattle.varint.specs.Notation.{hex, Notation·computes}
+
+-- What a varint at 0 says.
+read : (value next : ℕ) → Judged Varint
+read value next = pass (record { value = value; next = next })
+
+varints : List (Bytes × Judged Varint)
+varints =
+    (hex "01", read 1 1)
+    ∷ (hex "96 01", read 150 2)
+    ∷ (hex "AC 02", read 300 2)
+    ∷ (hex "FE FF FF FF FF FF FF FF FF 01", read (2 ^ 64 - 2) 10)  -- -2
+    ∷ (hex "FF FF FF FF FF FF FF FF FF 01", read (2 ^ 64 - 1) 10)
+    ∷ (hex "FF FF FF FF FF FF FF FF FF 02", refused 2 0)
+    ∷ (hex "80 80 80 80 80 80 80 80 80 80 00", refused 2 0)
+    ∷ (hex "80 00", read 0 2)  -- padded
+    ∷ (hex "80", refused 1 0)
+    ∷ ([], refused 1 0)
+    ∷ []
+
+varints-hold : map (λ s. varint (s .0) 0 (length (s .0)) 0) varints ≡ map (λ s. s .1) varints
+unfolding varints read Notation·computes Varint·computes
+varints-hold = refl

@@ -1,0 +1,36 @@
+// What the wire is read with: varints, and parts of slices. Every function answers for any bytes and any numbers. What the answers
+// mean stands in specs/.
+mod slices;
+mod varints;
+
+pub use slices::between;
+pub use slices::same_bytes;
+pub use varints::byte_at;
+pub use varints::read_varint;
+pub use varints::wide;
+
+// A refusal of document 01: its number, and its place in the model.
+pub struct Refusal {
+    pub number: u8,
+    pub place: usize,
+}
+
+// A varint that was read: its value, and where it ends.
+pub struct Varint {
+    pub value: u64,
+    pub next: usize,
+}
+
+pub enum VarintAnswer {
+    Read(Varint),
+    Refused(Refusal),
+}
+
+// The numbers of document 01's table that the wire refuses with.
+impl Refusal {
+    pub const PAST_END: u8 = 1;
+
+    pub const TENTH_BYTE: u8 = 2;
+
+    pub const BAD_TAG: u8 = 3;
+}
