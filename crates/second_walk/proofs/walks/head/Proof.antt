@@ -1,8 +1,8 @@
-use Rattle.gate.proofs.IndexedLaws.{held-on, holds-on}
+use Rattle.second_walk.proofs.HeldLaws.{held-on, holds-on}
 use Rattle.scope.proofs.SplitLaws.{others-lent}
 use borrow.Author.Needs.{needs}
-use Rattle.gate.proofs.checks.head.Statement.{statement}
-use Rattle.gate.proofs.checks.head.Tie as tie
+use Rattle.second_walk.proofs.walks.head.Statement.{statement}
+use Rattle.second_walk.proofs.walks.head.Tie as tie
 
 header-requires : tie.Need-header-requires
 header-requires c κs =

@@ -1,0 +1,4 @@
+pub mod ListAgain
+pub mod AgainLaws
+pub mod HeldLaws
+pub mod WalkLaws

@@ -1,0 +1,80 @@
+// The second walk: the header, then the main graph.
+ghost use mathlib.Core.Path.{_≡_};
+ghost use Prim.Native.Nat.{_^_, _<_};
+ghost use lib.ListN.{length, drop};
+ghost use Rattle.wire.specs.Message.{message, whole};
+ghost use Rattle.schema.specs.Answers.{silent};
+ghost use Rattle.rules.specs.Header.{header, secondWalk};
+ghost use Rattle.rules.specs.Verdict.{fills};
+ghost use Rattle.scope.specs.Scope.{stepSays};
+ghost use Rattle.scope.specs.Recall.{Remembering, Recalling};
+ghost use Rattle.values.specs.Answers.{rulingSays};
+ghost use Rattle.messages.specs.Imported.{Outlined, rulingOf, holds};
+ghost use Rattle.second_walk.specs.Held.{HeldOn};
+use cycle::graph;
+use messages::Heading;
+use messages::header;
+use messages::model_outline;
+use messages::ruling_of;
+use messages::whole;
+use scope::Index;
+use scope::Progress;
+use scope::Step;
+use scope::standing;
+use scope::stopped;
+use values::Ruling;
+use values::numbers::MODEL_GRAPH;
+use wire::Outline;
+use wire::Sought;
+
+// "to depth 8, the main graph being depth 1"
+const DEEPEST: usize = 8;
+
+// The header, with the imports in the part of the extra cells that is for lists.
+fn head(model: &[u8], list: &[u8], extra: &mut [u32], ix: Index, o: Outline) -> Heading
+    requires { ⌜ Outlined (now model) o ⌝ }
+    requires { ⌜ Remembering (now model) ix (now extra) ⌝ }
+    requires { ⌜ length (now model) < 2 ^ 32 ⌝ }
+    ensures answer { λ r. ⌜ rulingSays (rulingOf r) ≡ silent (header (now (model .entry)) (now (list .entry)) (message (now (model .entry)) (whole (now (model .entry))))) ⌝ }
+    ensures imported { λ r. ⌜ holds (now (model .entry)) (ix .seed) (drop (ix .split) (now (extra .exit))) r ⌝ }
+    ensures held { λ _. ⌜ HeldOn (now (model .entry)) ix (now (extra .entry)) (now (extra .exit)) ⌝ }
+{
+    let split = ix.split;
+    header(model, list, &mut extra[split..], ix.seed, o)
+}
+
+// "Header order: ..", "Then the main graph."
+pub fn second_walk(
+    model: &[u8],
+    list: &[u8],
+    cells: &mut [u32],
+    extra: &mut [u32],
+    ix: Index,
+) -> Step
+    requires { ⌜ Recalling (now model) ix (now cells) (now extra) ⌝ }
+    requires { ⌜ length (now model) < 2 ^ 32 ⌝ }
+    ensures answer { λ r. ⌜ stepSays (now (model .entry)) (now (cells .exit)) r ≡ secondWalk (now (model .entry)) (now (list .entry)) (fills (length (now (cells .entry)))) ⌝ }
+    ensures size { λ _. ⌜ length (now (cells .exit)) ≡ length (now (cells .entry)) ⌝ }
+{
+    let start = Progress {
+        used: 0,
+        nodes: 0,
+        most: 0,
+    };
+    let o = model_outline(model);
+    let heading = head(model, list, extra, ix, o);
+    let Heading::Imported(imports) = heading else {
+        return standing(start, ruling_of(heading));
+    };
+    let m = whole(model);
+    let top = imports.listing.top;
+    let known = Index {
+        seed: ix.seed,
+        split: ix.split,
+        imports: imports,
+    };
+    match m.first_from(model, MODEL_GRAPH, o.second) {
+        Sought::Missing => stopped(Ruling::NO_GRAPH, m.place),
+        Sought::Found(g, _) => graph(model, cells, extra, known, top, DEEPEST, true, start, g),
+    }
+}
