@@ -18,5 +18,6 @@ pub mod rng;
 pub mod rows;
 pub mod runner;
 pub mod schema;
+pub mod spellings;
 pub mod sweeps;
 pub mod wire;

@@ -81,6 +81,7 @@ fn run(settings: &Settings, tally: &mut Tally) -> Outcome {
     }
     for row in rows::document().iter().chain(&rows::by_hand()) {
         tally.row(row)?;
+        tally.spellings(row)?;
     }
     aimed_models(tally)?;
     short_models(tally)?;

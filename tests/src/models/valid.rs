@@ -35,9 +35,6 @@ pub fn of_size(rng: &mut Rng, room: usize) -> Made {
     if rng.chance(1, 2) {
         tree.interleave(rng);
     }
-    if rng.chance(1, 4) {
-        tree.pad(rng);
-    }
     Made { tree, entries, nodes, names }
 }
 
@@ -85,7 +82,7 @@ impl<'r> Maker<'r> {
             let version = match self.rng.below(3) {
                 0 => entry.lowest,
                 1 => entry.highest,
-                _ => entry.lowest + self.rng.below((entry.highest - entry.lowest) as usize + 1) as u32,
+                _ => lists::between(self.rng, entry),
             };
             let import = Tree::new(Message::OperatorSetId).number(2, u64::from(version));
             imports.push(self.with_domain(import, 1, &entry.domain));
