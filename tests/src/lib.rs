@@ -5,6 +5,8 @@ pub mod aimed;
 pub mod buckets;
 pub mod checker;
 pub mod compare;
+#[cfg(test)]
+mod examples;
 #[cfg(feature = "library")]
 pub mod gate;
 pub mod header;
