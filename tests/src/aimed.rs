@@ -8,6 +8,7 @@ mod imports;
 mod nodes;
 mod parts;
 mod scopes;
+mod starts;
 
 use crate::checker::Verdict;
 use crate::models::lists::L;
@@ -17,7 +18,8 @@ pub use crafted::{crafted, SEED};
 
 /// Small ones, for every number of extra cells from `4n` to `4n + 60`.
 pub fn small() -> Vec<Row> {
-    [scopes::rows(), nodes::rows(), attributes::rows(), defaults::rows(), imports::rows(), crafted::few()].concat()
+    let lists = [nodes::rows(), attributes::rows(), defaults::rows(), imports::rows()].concat();
+    [scopes::rows(), lists, starts::rows(), crafted::few()].concat()
 }
 
 /// So many names in a list: more than the smaller sizes of extra cells have room for.

@@ -35,6 +35,9 @@ pub fn of_size(rng: &mut Rng, room: usize) -> Made {
     if rng.chance(1, 2) {
         tree.interleave(rng);
     }
+    if rng.chance(1, 4) {
+        tree.items.insert(0, wild::like_a_name(rng));
+    }
     Made { tree, entries, nodes, names }
 }
 
