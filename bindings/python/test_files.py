@@ -42,7 +42,8 @@ class Files(InFolder):
         self.assertEqual(len(table()), len(list(EXAMPLES.glob("*.onnx"))))
         for name, expected in table().items():
             model = (EXAMPLES / name).read_bytes()
-            self.assertEqual(str(onnx_gate.check(model, OPERATORS)), expected, name)
+            for lent in model, bytearray(model), memoryview(model[::-1])[::-1]:
+                self.assertEqual(str(onnx_gate.check(lent, OPERATORS)), expected, name)
             checked = onnx_gate.check_file(EXAMPLES / name, OPERATORS)
             self.assertEqual((str(checked), bool(checked)), (expected, expected.startswith("accepted")), name)
             self.assertEqual(checked.model, model if checked else b"", name)
