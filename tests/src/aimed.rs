@@ -5,6 +5,7 @@ mod attributes;
 mod crafted;
 mod defaults;
 mod imports;
+mod near;
 mod nodes;
 mod parts;
 mod scopes;
@@ -15,6 +16,7 @@ use crate::models::lists::L;
 use crate::rows::Row;
 
 pub use crafted::{crafted, SEED};
+pub use near::near;
 
 /// Small ones, for every number of extra cells from `4n` to `4n + 60`.
 pub fn small() -> Vec<Row> {
@@ -63,8 +65,8 @@ mod tests {
     }
 
     #[test]
-    fn the_checker_on_the_crafted_models() {
-        for row in crafted() {
+    fn the_checker_on_the_other_models() {
+        for row in crafted().into_iter().chain(near()) {
             assert_eq!(check(&row.model, &row.list, row.cells), row.answer, "{}", row.name);
         }
     }
