@@ -29,8 +29,9 @@ fn with_count(body: Vec<u8>) -> Vec<u8> {
     list
 }
 
-/// Domains are free bytes. Some are prefixes of others, and one only looks like the default domain.
-const DOMAINS: [&[u8]; 8] = [b"", b"ai.onnx.ml", b"ai.onnx", b"ai.onn", b"com.x", b"com.xy", b"\xff\x00", b"AI.ONNX"];
+/// Domains are free bytes. Some are prefixes of others, two only look like the default domain, and one has a length of two bytes.
+const DOMAINS: [&[u8]; 10] =
+    [b"", b"ai.onnx.ml", b"ai.onnx", b"ai.onn", b"com.x", b"com.xy", b"\xff\x00", b"AI.ONNX", b"ai.oXnx", &[b'd'; 300]];
 
 /// A sound list with at least one entry.
 pub fn sound(rng: &mut Rng) -> Vec<Entry> {
