@@ -1,9 +1,12 @@
 """What is lent is copied, and no class decides how much of it there is. Run by `python3 -m unittest` in this folder."""
 
 import array
+import inspect
 import mmap
+import sys
 import tempfile
 import threading
+import typing
 import unittest
 
 import onnx_gate
@@ -35,6 +38,17 @@ def liar(length):
         __hash__ = bytes.__hash__
 
     return Liar
+
+
+class Types(unittest.TestCase):
+    def test_every_function_says_its_types(self):
+        met = 0
+        for module in onnx_gate, *(sys.modules[f"onnx_gate.{name}"] for name in ("_library", "_lists", "_sizing", "_values")):
+            for name, function in inspect.getmembers(module, inspect.isfunction):
+                hints = typing.get_type_hints(function)
+                self.assertEqual(set(hints), {*inspect.signature(function).parameters, "return"}, name)
+                met += 1
+        self.assertGreater(met, 12)
 
 
 class Lent(unittest.TestCase):
