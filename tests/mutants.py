@@ -160,6 +160,9 @@ def main():
     tried = chosen(args)
     survivors = []
     with tempfile.TemporaryDirectory() as folder:
+        for linked in programs:
+            if not passes(linked, linked.bytes, folder):
+                sys.exit(f"{linked.path} does not pass as it is")
         for number, jump in enumerate(tried, 1):
             start = time.monotonic()
             test = noticed_by(jump, programs, folder)
