@@ -7,6 +7,7 @@
 # --lift-ir: models of IR version 3 are checked as copies that say 4, to see what else they would meet.
 # ONNX_GATE names the command; by default it is the one that ./gate builds.
 set -eu
+unset CDPATH
 root=$(cd "$(dirname "$0")/.." && pwd)
 command=${ONNX_GATE:-$root/target/cli/release/onnx-gate}
 

@@ -1,4 +1,4 @@
-/* Checks the model in a file for a runtime that has the default domain's operators, versions 7 to 21, and prints the answer. */
+/* Checks the model in a file for a runtime that has ai.onnx 7 to 21 and ai.onnx.ml 1 to 5, and prints the answer. */
 #include "onnx_gate.h"
 
 #include <inttypes.h>
@@ -8,7 +8,9 @@
 #define CELLS 65536 /* a model with more names visible at once is refused with 40 */
 #define LISTS 65536 /* a model with longer lists of named nodes, attributes or initializers gets the same answer later */
 
-static const uint8_t operators[] = {0, 0, 0, 11, 1, 0, 8, 0, 0, 0, 7, 0, 0, 0, 21};
+/* what `operators '' 7 21 ai.onnx.ml 1 5` writes */
+static const uint8_t operators[] = {0,   0,   0,   31,  1,   0,   8,   0,   0,   0,   7, 0, 0, 0, 21, 0, 18, 'a',
+                                    'i', '.', 'o', 'n', 'n', 'x', '.', 'm', 'l', 0,   0, 0, 1, 0, 0,  0, 5};
 static uint8_t model[67108865]; /* one byte more than may be accepted, so that no model passes because it was cut */
 static uint32_t cells[CELLS], extra[4 * CELLS + 2 + 4 * LISTS];
 

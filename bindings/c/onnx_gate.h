@@ -16,6 +16,9 @@
 #include <stddef.h>
 #include <stdint.h>
 
+/* Of the header and of the library, as of the bindings for Rust and Python. */
+#define ONNX_GATE_VERSION "0.1.0"
+
 #ifdef __cplusplus
 extern "C" {
 #endif
@@ -29,44 +32,48 @@ struct onnx_gate_answer {
     uint64_t names;   /* accepted: the most names visible together. With fewer cells than this the model is refused with 40. */
 };
 
-/* The refusals, by number:
- *
- *    7  model above 67,108,864 bytes (tested first of these)
- *    8  operator list unsound (tested second)
- *    1  varint, value or length runs past its message
- *    2  tenth varint byte above 1
- *    3  bad tag
- *    4  wrong wire type for a named field
- *    5  a single field repeated
- *    6  a graph at depth 9
- *   10  ir_version outside 4..10
- *   11  no graph
- *   12  no opset_import
- *   13  domain imported twice
- *   14  version not within the list
- *   15  functions present
- *   16  sparse_initializer present
- *   20  graph name empty
- *   21  not an identifier
- *   22  name empty
- *   23  name already visible
- *   24  main input or output has no tensor type
- *   25  elem_type outside 1..23
- *   26  data_type outside 1..23
- *   27  op_type empty
- *   28  node's domain not imported
- *   29  node name used before in its graph
- *   30  node input not visible
- *   31  attribute name used before in its node
- *   32  attribute value rule
- *   33  ref_attr_name not empty
- *   34  node has no output field
- *   35  graph output not visible
- *   37  shape absent
- *   38  dim_value negative
- *   40  a new name, and visible names already equal the cells
- *   65  onnx_gate_check_indexed only: fewer extra cells than four times the cells (tested before all others)
- */
+/* The refusals. Of several that apply the first is told: 65, which is for onnx_gate_check_indexed only; 7; 8; the first of 1 to 6 in
+ * the order of the bytes; then 10 to 40, as document 01 orders them. */
+enum onnx_gate_refusal {
+    ONNX_GATE_ACCEPTED = 0,
+    ONNX_GATE_PAST_END = 1,             /* a varint, value or length runs past the end of its message */
+    ONNX_GATE_TENTH_BYTE = 2,           /* the tenth byte of a varint is above 1 */
+    ONNX_GATE_BAD_TAG = 3,              /* not a tag: above 2^32 - 1, field number 0, or a wire type other than 0, 1, 2 and 5 */
+    ONNX_GATE_WRONG_WIRE = 4,           /* the field has another wire type than onnx.proto gives it */
+    ONNX_GATE_REPEATED = 5,             /* a field that may stand once stands again, or a second member of a one-of */
+    ONNX_GATE_TOO_DEEP = 6,             /* graphs are nested more than 8 deep, the main graph being the first */
+    ONNX_GATE_MODEL_TOO_LARGE = 7,      /* the model has more than 67,108,864 bytes */
+    ONNX_GATE_LIST_UNSOUND = 8,         /* the operator list is not in its format, or has a domain twice */
+    ONNX_GATE_BAD_IR_VERSION = 10,      /* ir_version must be 4 to 10 */
+    ONNX_GATE_NO_GRAPH = 11,            /* the model has no graph */
+    ONNX_GATE_NO_OPSET_IMPORT = 12,     /* the model has no opset_import */
+    ONNX_GATE_IMPORTED_TWICE = 13,      /* a domain is imported twice (the empty domain is ai.onnx) */
+    ONNX_GATE_VERSION_NOT_LISTED = 14,  /* the operator list does not allow this version of the domain */
+    ONNX_GATE_FUNCTIONS_PRESENT = 15,   /* the model has functions of its own */
+    ONNX_GATE_SPARSE_INITIALIZER = 16,  /* a graph has a sparse_initializer */
+    ONNX_GATE_GRAPH_NAME_EMPTY = 20,    /* a graph must have a name */
+    ONNX_GATE_NOT_IDENTIFIER = 21,      /* not an identifier: a letter or underscore, then letters, digits and underscores, ASCII
+                                           only */
+    ONNX_GATE_NAME_EMPTY = 22,          /* an input, initializer, output or attribute must have a name */
+    ONNX_GATE_ALREADY_VISIBLE = 23,     /* the name is already defined and visible here */
+    ONNX_GATE_NO_TENSOR_TYPE = 24,      /* an input or output of the main graph must have a tensor type */
+    ONNX_GATE_BAD_ELEM_TYPE = 25,       /* elem_type must be 1 to 23 */
+    ONNX_GATE_BAD_DATA_TYPE = 26,       /* data_type must be 1 to 23 */
+    ONNX_GATE_OP_TYPE_EMPTY = 27,       /* a node must have an op_type */
+    ONNX_GATE_NOT_IMPORTED = 28,        /* the node's domain is not imported */
+    ONNX_GATE_NODE_NAME_TWICE = 29,     /* an earlier node of the graph has the same name */
+    ONNX_GATE_INPUT_NOT_VISIBLE = 30,   /* the node reads a name that is not defined before it, or not visible here */
+    ONNX_GATE_ATTRIBUTE_TWICE = 31,     /* an earlier attribute of the node has the same name */
+    ONNX_GATE_BAD_VALUE = 32,           /* an attribute's type is outside 1..14, or its value is not the one that the type calls
+                                           for */
+    ONNX_GATE_REFERENCE_PRESENT = 33,   /* ref_attr_name is for functions only */
+    ONNX_GATE_NO_OUTPUT = 34,           /* a node must have an output */
+    ONNX_GATE_OUTPUT_NOT_VISIBLE = 35,  /* the graph's output is a name that nothing visible defines */
+    ONNX_GATE_NO_SHAPE = 37,            /* a tensor type of the main graph must have a shape */
+    ONNX_GATE_NEGATIVE_DIM = 38,        /* a dim_value is negative */
+    ONNX_GATE_CELLS_FULL = 40,          /* more names are visible together than there are cells */
+    ONNX_GATE_TOO_FEW_EXTRA = 65        /* a program lent the indexed check fewer extra cells than four times its cells */
+};
 
 /* Checks a model.
  *

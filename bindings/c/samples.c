@@ -117,7 +117,7 @@ static void check_sample(const struct sample *s, size_t which)
 
 static void check_indexed(const struct sample *s, size_t which, size_t extra, uint64_t seed)
 {
-    struct onnx_gate_answer too_few = {65, 0, 0, 0};
+    struct onnx_gate_answer too_few = {ONNX_GATE_TOO_FEW_EXTRA, 0, 0, 0};
     struct lent lent;
     fill(&lent);
     expect(is(indexed(s, &lent, extra, seed), extra < 4 * s->cells ? too_few : s->answer), "indexed sample", which);
@@ -142,7 +142,7 @@ static void check_indexed_sample(const struct sample *s, size_t which)
 
 static void check_large(size_t length, struct onnx_gate_answer expected)
 {
-    struct onnx_gate_answer too_few = {65, 0, 0, 0};
+    struct onnx_gate_answer too_few = {ONNX_GATE_TOO_FEW_EXTRA, 0, 0, 0};
     struct sample s = {NULL, length, BYTES(L), 0, expected};
     struct lent lent;
     uint8_t *model = (uint8_t *)calloc(length, 1);
@@ -156,7 +156,7 @@ static void check_large(size_t length, struct onnx_gate_answer expected)
 
 int main(void)
 {
-    struct onnx_gate_answer bad_tag = {3, 0, 0, 0}, too_large = {7, 0, 0, 0};
+    struct onnx_gate_answer bad_tag = {ONNX_GATE_BAD_TAG, 0, 0, 0}, too_large = {ONNX_GATE_MODEL_TOO_LARGE, 0, 0, 0};
     size_t i;
     for (i = 0; i < sizeof samples / sizeof samples[0]; i++) {
         check_sample(&samples[i], i);

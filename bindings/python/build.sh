@@ -1,10 +1,16 @@
 #!/bin/sh
-# Makes libonnx_gate.so beside the module: ctypes loads shared objects, and the kit writes a static library.
+# Makes onnx_gate/libonnx_gate.so: ctypes loads shared objects, and the kit writes a static library. What is there already is
+# replaced only by what could be built.
 set -eu
-here=$(cd "$(dirname "$0")" && pwd)
-root=$(cd "$here/../.." && pwd)
-archive=${GATE_LIB_DIR:-$root/target/staticlib}/libgate_c.a
-if [ ! -f "$archive" ]; then
+unset CDPATH
+here=$(cd "$(dirname "$0")" && pwd -P)
+root=$(cd "$here/../.." && pwd -P)
+archive=$root/target/staticlib/libgate_c.a
+made=$here/onnx_gate/libonnx_gate.so
+if [ ! -f "$archive" ] || [ -n "$(find "$root/crates" "$root/crates.txt" -newer "$archive" -print | head -n 1)" ]; then
     (cd "$root" && rt staticlib gate_c >&2)
+    touch "$archive"
 fi
-${CC:-gcc} -shared -o "$here/libonnx_gate.so" -Wl,--whole-archive "$archive" -Wl,--no-whole-archive
+trap 'rm -f "$made.new"' EXIT
+gcc -shared -o "$made.new" -Wl,--no-undefined -Wl,--whole-archive "$archive" -Wl,--no-whole-archive
+mv "$made.new" "$made"

@@ -5,6 +5,7 @@ import unittest
 from unittest import mock
 
 import onnx_gate
+from onnx_gate import _sizing
 
 LIST = onnx_gate.operators([("", 7, 21)])
 M1 = bytes.fromhex("0808 4202100D 3A0B 120167 0A06 120161 220158")
@@ -31,12 +32,9 @@ class Samples(unittest.TestCase):
         for bad in {"cells": -1}, {"cells": 1, "extra": -1}, {"extra": 4}, {"seed": -1}, {"seed": 2**64}:
             with self.assertRaises(ValueError, msg=bad):
                 onnx_gate.check(M1, LIST, **bad)
-        for bad in {"cells": 1.0}, {"cells": 1, "extra": "4"}, {"seed": 0.5}:
+        for bad in {"cells": 1.0}, {"cells": 1, "extra": "4"}, {"seed": 0.5}, {"cells": True}, {"seed": False}:
             with self.assertRaises(TypeError, msg=bad):
                 onnx_gate.check(M1, LIST, **bad)
-        with self.assertRaises(TypeError):
-            onnx_gate.check(5, LIST)
-
     def test_extra_cells_and_seeds(self):
         for seed in 0, 1, 2**64 - 1:
             self.assertEqual(str(onnx_gate.check(M1, LIST, seed=seed)), "accepted nodes 1 names 1")
@@ -53,9 +51,16 @@ class Samples(unittest.TestCase):
         self.assertEqual(onnx_gate.show_name(b"model", -1, 2), b"")
 
     def test_lists(self):
-        for bad in [("a", 0, 1)], [("a", 2, 1)], [("", 1, 1), ("ai.onnx", 1, 1)], [("x" * 65528, 1, 1)], [("a", 1, 2**32)]:
-            with self.assertRaises(ValueError):
+        twice, long = [("", 1, 1), ("ai.onnx", 1, 1)], [("x" * 65528, 1, 1)]
+        for bad in [("a", 0, 1)], [("a", 2, 1)], [("a", -1, 1)], [("a", 1, 2**32)], [("a", 2**32, 2**32)], twice, long:
+            with self.assertRaises(ValueError, msg=bad):
                 onnx_gate.operators(bad)
+        for bad in (5, 1, 1), (True, 1, 1), (None, 1, 1), ("a", True, 1), ("a", 1, True), ("a", 1.0, 2), ("a", "1", 2), (["a"], 1, 1):
+            with self.assertRaises(TypeError, msg=bad):
+                onnx_gate.operators([bad])
+        self.assertEqual(onnx_gate.operators([("x", 1, 0x01020304)]).hex(), "0000000c010009780000000101020304")
+        for domain in "x", b"x", bytearray(b"x"), memoryview(b"x"):
+            self.assertEqual(onnx_gate.operators([(domain, 1, 2)]).hex(), "0000000c010009780000000100000002")
 
 
 def part(number, contents):
@@ -96,16 +101,16 @@ class Sizes(unittest.TestCase):
         self.assertEqual((answer, [cells for cells, _ in lent]), (f"refused 40 at {24 + 100_000 * 9}", [65_536, 100_000]))
 
     def test_a_count_that_is_too_low(self):
-        with mock.patch.object(onnx_gate, "_skim", return_value=(0, 0)):
+        with mock.patch.object(_sizing, "skim", return_value=(0, 0)):
             answer, lent = self.calls(outputs(70_000, padding=2 * onnx_gate.SMALL))
         self.assertEqual((answer, [cells for cells, _ in lent]), ("accepted nodes 1 names 70000", [0, 524_288]))
 
     def test_what_cannot_be_read(self):
         for start in b"\x00", b"\x0b", b"\x3a\xff\xff\xff\xff\x7f", b"\xff" * 11, part(7, b"\x0a\x7f"):
             model = start + bytes(2 * onnx_gate.SMALL)
-            self.assertEqual(onnx_gate._needed(model), (0, 0))
+            self.assertEqual(_sizing.needed(model), (0, 0))
             self.assertNotEqual(onnx_gate.check(model, LIST).refusal, 0)
-        self.assertEqual(onnx_gate._needed(bytes(onnx_gate.LARGEST_MODEL + 1)), (0, 0))
+        self.assertEqual(_sizing.needed(bytes(onnx_gate.LARGEST_MODEL + 1)), (0, 0))
 
     def test_any_bytes_are_skimmed(self):
         source, model = random.Random(3), outputs(20)
@@ -114,8 +119,8 @@ class Sizes(unittest.TestCase):
             for _ in range(source.randrange(4) if changed else 0):
                 changed[source.randrange(len(changed))] = source.randrange(256)
             try:
-                self.assertLessEqual(sum(onnx_gate._skim(changed)), len(changed))
-            except onnx_gate._Unreadable:
+                self.assertLessEqual(sum(_sizing.skim(changed)), len(changed))
+            except _sizing.Unreadable:
                 self.assertFalse(onnx_gate.check(changed, LIST))
 
 

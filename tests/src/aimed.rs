@@ -5,19 +5,23 @@ mod attributes;
 mod crafted;
 mod defaults;
 mod imports;
+mod near;
 mod nodes;
 mod parts;
 mod scopes;
+mod starts;
 
 use crate::checker::Verdict;
 use crate::models::lists::L;
 use crate::rows::Row;
 
 pub use crafted::{crafted, SEED};
+pub use near::near;
 
 /// Small ones, for every number of extra cells from `4n` to `4n + 60`.
 pub fn small() -> Vec<Row> {
-    [scopes::rows(), nodes::rows(), attributes::rows(), defaults::rows(), imports::rows(), crafted::few()].concat()
+    let lists = [nodes::rows(), attributes::rows(), defaults::rows(), imports::rows()].concat();
+    [scopes::rows(), lists, starts::rows(), crafted::few()].concat()
 }
 
 /// So many names in a list: more than the smaller sizes of extra cells have room for.
@@ -61,8 +65,8 @@ mod tests {
     }
 
     #[test]
-    fn the_checker_on_the_crafted_models() {
-        for row in crafted() {
+    fn the_checker_on_the_other_models() {
+        for row in crafted().into_iter().chain(near()) {
             assert_eq!(check(&row.model, &row.list, row.cells), row.answer, "{}", row.name);
         }
     }

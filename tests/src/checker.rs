@@ -2,6 +2,7 @@
 //! It is linear in the model: each message is scanned a fixed number of times, names go through hashing.
 
 use std::collections::HashSet;
+use std::fmt;
 
 use crate::header::header;
 use crate::oplist;
@@ -263,6 +264,16 @@ pub fn refusal_numbers() -> Vec<u64> {
     numbers.extend([37, 38]);
     numbers.sort_unstable();
     numbers
+}
+
+/// As the program prints it.
+impl fmt::Display for Verdict {
+    fn fmt(&self, f: &mut fmt::Formatter<'_>) -> fmt::Result {
+        match self {
+            Verdict::Accepted { nodes, names } => write!(f, "accepted nodes {nodes} names {names}"),
+            Verdict::Refused { number, place } => write!(f, "refused {number} at {place}"),
+        }
+    }
 }
 
 impl Verdict {

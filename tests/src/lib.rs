@@ -5,6 +5,8 @@ pub mod aimed;
 pub mod buckets;
 pub mod checker;
 pub mod compare;
+#[cfg(test)]
+mod examples;
 #[cfg(feature = "library")]
 pub mod gate;
 pub mod header;
@@ -18,5 +20,6 @@ pub mod rng;
 pub mod rows;
 pub mod runner;
 pub mod schema;
+pub mod spellings;
 pub mod sweeps;
 pub mod wire;

@@ -81,6 +81,7 @@ fn run(settings: &Settings, tally: &mut Tally) -> Outcome {
     }
     for row in rows::document().iter().chain(&rows::by_hand()) {
         tally.row(row)?;
+        tally.spellings(row)?;
     }
     aimed_models(tally)?;
     short_models(tally)?;
@@ -102,8 +103,11 @@ fn generated(seed: u64, number: u64, tally: &mut Tally) -> Outcome {
     })
 }
 
-/// Models aimed at the index: the small ones with each number of spare cells, the large ones with some.
+/// Models aimed at comparisons, and at the index: the small ones with each number of spare cells, the large ones with some.
 fn aimed_models(tally: &mut Tally) -> Outcome {
+    for row in aimed::near() {
+        tally.row(&row)?;
+    }
     for row in aimed::small() {
         tally.sweep(&row, 0..=60)?;
     }

@@ -10,6 +10,7 @@ pub mod wild;
 
 use crate::rng::Rng;
 use crate::schema::Message;
+use proto::Tree;
 
 /// One model under one list. `expected` are the counts of its acceptance, where it was made sound.
 #[derive(Clone, Debug)]
@@ -38,10 +39,18 @@ pub fn case(seed: u64, number: u64) -> Case {
     case
 }
 
+/// The bytes of a tree. Half of them are padded, and only now, so that a fault too may stand behind a padded tag.
+fn spelled(mut tree: Tree, rng: &mut Rng) -> Vec<u8> {
+    if rng.chance(1, 2) {
+        tree.pad(rng);
+    }
+    tree.encode()
+}
+
 fn sound(rng: &mut Rng) -> Case {
     let made = valid::valid(rng);
     let expected = Some((made.nodes, made.names));
-    Case { label: "sound".into(), model: made.tree.encode(), list: lists::encode(&made.entries), expected }
+    Case { label: "sound".into(), model: spelled(made.tree, rng), list: lists::encode(&made.entries), expected }
 }
 
 /// The fault whose turn it is, on sound models until one has a place for it.
@@ -61,7 +70,8 @@ pub fn with_fault(rng: &mut Rng, fault: &faults::Fault) -> Case {
         }
         made = valid::valid(rng);
     }
-    Case { label: fault.name.into(), model: made.tree.encode(), list: lists::encode(&made.entries), expected: None }
+    let model = spelled(made.tree, rng);
+    Case { label: fault.name.into(), model, list: lists::encode(&made.entries), expected: None }
 }
 
 /// Two or three faults, mostly in a small model, where they fall on one message: then the order of the rules decides.
@@ -80,13 +90,14 @@ fn more_faults(rng: &mut Rng) -> Case {
             label.push(fault.name);
         }
     }
-    Case { label: label.join(" + "), model: made.tree.encode(), list: lists::encode(&made.entries), expected: None }
+    let model = spelled(made.tree, rng);
+    Case { label: label.join(" + "), model, list: lists::encode(&made.entries), expected: None }
 }
 
 fn damaged(rng: &mut Rng) -> Case {
     let made = valid::valid(rng);
     let other = valid::valid(rng).tree.encode();
-    let mut model = made.tree.encode();
+    let mut model = spelled(made.tree, rng);
     for _ in 0..1 + rng.below(3) {
         damage::damage(rng, &mut model, &other);
     }
@@ -98,12 +109,12 @@ fn wild_model(rng: &mut Rng) -> Case {
     let depth = 1 + rng.below(6);
     let mut tree = wild::tree(rng, Message::Model, depth);
     if rng.chance(1, 2) {
-        let import = proto::Tree::new(Message::OperatorSetId).number(2, 13);
+        let import = Tree::new(Message::OperatorSetId).number(2, 13);
         tree.items.retain(|item| item.number == 7);
         tree = tree.number(1, 8).tree(8, import);
     }
     wild::sprinkle(&mut tree, rng);
-    Case { label: "wild".into(), model: tree.encode(), list: lists::L.to_vec(), expected: None }
+    Case { label: "wild".into(), model: spelled(tree, rng), list: lists::L.to_vec(), expected: None }
 }
 
 fn random(rng: &mut Rng) -> Case {

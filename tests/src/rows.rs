@@ -1,6 +1,9 @@
 //! Models with known answers: the sample rows of document 01, and rows worked out by hand for its places.
 
 mod by_hand;
+mod domains;
+mod padded;
+mod versions;
 
 pub use by_hand::by_hand;
 

@@ -4,13 +4,14 @@ use crate::models::proto::Tree;
 use crate::schema::Message;
 
 /// Tags of the fields that are refused: a node's input, output and name, an attribute's name, an initializer's name, the
-/// name of an input or output of a graph.
+/// name of an input or output of a graph, a node's domain.
 pub const READ: u8 = 0x0A;
 pub const BOUND: u8 = 0x12;
 pub const NODE_NAME: u8 = 0x1A;
 pub const ATTRIBUTE_NAME: u8 = 0x0A;
 pub const TENSOR_NAME: u8 = 0x42;
 pub const LISTED: u8 = 0x0A;
+pub const DOMAIN: u8 = 0x3A;
 
 pub fn model(graph: Tree) -> Vec<u8> {
     let import = Tree::new(Message::OperatorSetId).number(2, 13);

@@ -82,10 +82,7 @@ fn expected(files: &Files) -> String {
     } else {
         check(model, list, CELLS)
     };
-    match verdict {
-        Verdict::Accepted { nodes, names } => format!("accepted nodes {nodes} names {names}\n"),
-        Verdict::Refused { number, place } => format!("refused {number} at {place}\n"),
-    }
+    format!("{verdict}\n")
 }
 
 fn cases() -> Vec<Files> {

@@ -29,8 +29,9 @@ fn with_count(body: Vec<u8>) -> Vec<u8> {
     list
 }
 
-/// Domains are free bytes. Some are prefixes of others, and one only looks like the default domain.
-const DOMAINS: [&[u8]; 8] = [b"", b"ai.onnx.ml", b"ai.onnx", b"ai.onn", b"com.x", b"com.xy", b"\xff\x00", b"AI.ONNX"];
+/// Domains are free bytes. Some are prefixes of others, two only look like the default domain, and one has a length of two bytes.
+const DOMAINS: [&[u8]; 10] =
+    [b"", b"ai.onnx.ml", b"ai.onnx", b"ai.onn", b"com.x", b"com.xy", b"\xff\x00", b"AI.ONNX", b"ai.oXnx", &[b'd'; 300]];
 
 /// A sound list with at least one entry.
 pub fn sound(rng: &mut Rng) -> Vec<Entry> {
@@ -48,15 +49,39 @@ pub fn sound(rng: &mut Rng) -> Vec<Entry> {
 }
 
 fn versions(rng: &mut Rng) -> (u32, u32) {
-    match rng.below(5) {
+    match rng.below(8) {
         0 => (1, u32::MAX),
         1 => (u32::MAX, u32::MAX),
         2 => (1, 1),
+        3 => {
+            let (one, other) = (wide_version(rng), wide_version(rng));
+            (one.min(other), one.max(other))
+        }
+        4 => {
+            let lowest = wide_version(rng);
+            (lowest, lowest.saturating_add(one_in_a_byte(rng)))
+        }
         _ => {
             let lowest = 1 + rng.below(20) as u32;
             (lowest, lowest + rng.below(20) as u32)
         }
     }
+}
+
+/// A version whose four bytes are drawn each by itself, so that a comparison has to look at all of them.
+fn wide_version(rng: &mut Rng) -> u32 {
+    let bytes = [(); 4].map(|()| *rng.pick(&[0, 0, 1, 2, 0x7f, 0x80, 0xff]));
+    u32::from_be_bytes(bytes).max(1)
+}
+
+/// 1 in one of the four bytes of a version.
+pub fn one_in_a_byte(rng: &mut Rng) -> u32 {
+    1 << (8 * rng.below(4))
+}
+
+/// Some version that the entry allows.
+pub fn between(rng: &mut Rng, entry: &Entry) -> u32 {
+    entry.lowest + rng.below((entry.highest - entry.lowest) as usize + 1) as u32
 }
 
 /// An unsound list, made from a sound one. A few ways happen to leave a list sound, which does no harm.
@@ -71,7 +96,7 @@ pub fn unsound(rng: &mut Rng, good: &[Entry]) -> Vec<u8> {
         3 => with_wrong_count(rng, list),
         4 => with_byte(list, 4, rng.word() as u8 & 0xfe),
         5 => with_lowest(entries, at, 0),
-        6 => with_lowest(entries, at, good[at].highest.wrapping_add(1)),
+        6 => with_lowest(entries, at, good[at].highest.wrapping_add(one_in_a_byte(rng))),
         7 => [&[0, 0, 0, 0][..], &list[4..]].concat(),
         8 => {
             let twin = Entry { domain: alias(&entries[at].domain), lowest: 1, highest: 9 };

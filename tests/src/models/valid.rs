@@ -36,7 +36,7 @@ pub fn of_size(rng: &mut Rng, room: usize) -> Made {
         tree.interleave(rng);
     }
     if rng.chance(1, 4) {
-        tree.pad(rng);
+        tree.items.insert(0, wild::like_a_name(rng));
     }
     Made { tree, entries, nodes, names }
 }
@@ -85,7 +85,7 @@ impl<'r> Maker<'r> {
             let version = match self.rng.below(3) {
                 0 => entry.lowest,
                 1 => entry.highest,
-                _ => entry.lowest + self.rng.below((entry.highest - entry.lowest) as usize + 1) as u32,
+                _ => lists::between(self.rng, entry),
             };
             let import = Tree::new(Message::OperatorSetId).number(2, u64::from(version));
             imports.push(self.with_domain(import, 1, &entry.domain));

@@ -63,6 +63,13 @@ pub fn unknown(rng: &mut Rng, message: Message) -> Item {
     Item::new(number, value)
 }
 
+/// An unknown field of the model whose bytes spell a name or a domain, for the model's start: `src/aimed/starts.rs` says why.
+pub fn like_a_name(rng: &mut Rng) -> Item {
+    let rest = if rng.chance(1, 4) { *b"i.onnx.m" } else { [(); 8].map(|()| *rng.pick(b"w1_9Z")) };
+    // field 12 with wire type 1 is the letter `a`
+    Item::new(12, Value::Eight(rest))
+}
+
 /// Puts unknown fields into some messages of the tree, the same one twice at times: an unknown field may repeat.
 pub fn sprinkle(tree: &mut Tree, rng: &mut Rng) {
     for item in &mut tree.items {

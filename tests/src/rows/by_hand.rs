@@ -1,6 +1,6 @@
 //! Rows worked out by hand from document 01 and the readings of its open points.
 
-use super::{accepted, hex, refused, row, Row, M0};
+use super::{accepted, domains, hex, padded, refused, row, versions, Row, M0};
 use crate::models::lists::L;
 
 /// A graph behind M0's header, so that its first byte stands at 8. It is under 128 bytes long.
@@ -15,22 +15,24 @@ pub(super) fn in_graph(graph: &str) -> Vec<u8> {
 /// Rows for the places and the order of rules, worked out by hand; each graph begins at 8.
 pub fn by_hand() -> Vec<Row> {
     let mut rows = Vec::new();
-    for (name, graph, cells, answer) in GRAPHS {
+    for (name, graph, cells, answer) in GRAPHS.iter().chain(padded::GRAPHS) {
         let answer = match *answer {
             (0, nodes, names) => accepted(nodes, names),
             (number, place, _) => refused(number, place),
         };
         rows.push(row(name, in_graph(graph), &L, *cells, answer));
     }
-    for (name, model, number, place) in MODELS {
+    for (name, model, number, place) in MODELS.iter().chain(padded::MODELS) {
         rows.push(row(name, hex(model), &L, 9, refused(*number, *place)));
     }
     rows.extend(other_lists());
+    rows.extend(versions::versions());
+    rows.extend(domains::domains());
     rows
 }
 
 /// A graph by name, bytes, cells and answer: (0, nodes, names) or (number, place, 0).
-type GraphRow = (&'static str, &'static str, usize, (u64, u64, u64));
+pub(super) type GraphRow = (&'static str, &'static str, usize, (u64, u64, u64));
 
 #[rustfmt::skip]
 const GRAPHS: &[GraphRow] = &[
@@ -97,9 +99,11 @@ const GRAPHS: &[GraphRow] = &[
     ("a body lists its node's output", "12 01 67 0A 18 12 01 61 22 01 58 2A 10 0A 01 6B A0 01 05 32 08 12 01 67 62 03 0A 01 61", 9, (35, 34, 0)),
 ];
 
-/// Whole models that are refused, by number and place.
+/// A whole model that is refused, by name, bytes, number and place.
+pub(super) type ModelRow = (&'static str, &'static str, u64, u64);
+
 #[rustfmt::skip]
-const MODELS: &[(&str, &str, u64, u64)] = &[
+const MODELS: &[ModelRow] = &[
     ("5 before 1", "08 08 08", 5, 2),
     ("4 before 5", "08 08 0A 00", 4, 2),
     ("a tag padded to ten bytes", "88 80 80 80 80 80 80 80 80 00 08", 11, 0),

@@ -1,7 +1,7 @@
 //! Faults of the header: 10 to 15.
 
 use super::Fault;
-use crate::models::lists::alias;
+use crate::models::lists::{alias, one_in_a_byte};
 use crate::models::proto::{Item, Tree, Value};
 use crate::models::wild::EDGES;
 use crate::rng::Rng;
@@ -29,6 +29,7 @@ pub const FAULTS: &[Fault] = &[
     Fault { name: "no import", aims: 12, apply: |t, _| remove(t, 8) },
     Fault { name: "a domain imported twice", aims: 13, apply: import_twice },
     Fault { name: "a version next to the list's", aims: 14, apply: version_beside },
+    Fault { name: "a version of which one byte is another", aims: 14, apply: version_byte },
     Fault { name: "an edge as version", aims: 14, apply: version_edge },
     Fault { name: "no version", aims: 14, apply: no_version },
     Fault { name: "a domain that the list lacks", aims: 14, apply: strange_domain },
@@ -70,6 +71,16 @@ fn import_twice(tree: &mut Tree, rng: &mut Rng) -> bool {
 
 fn version_beside(tree: &mut Tree, rng: &mut Rng) -> bool {
     let step = *rng.pick(&[1, 30, u64::MAX, 1 << 32]);
+    step_version(tree, rng, step)
+}
+
+fn version_byte(tree: &mut Tree, rng: &mut Rng) -> bool {
+    let step = u64::from(one_in_a_byte(rng));
+    let step = if rng.chance(1, 2) { step } else { step.wrapping_neg() };
+    step_version(tree, rng, step)
+}
+
+fn step_version(tree: &mut Tree, rng: &mut Rng, step: u64) -> bool {
     let Some(import) = some_import(tree, rng) else {
         return false;
     };

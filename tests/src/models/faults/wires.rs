@@ -35,6 +35,15 @@ pub const FAULTS: &[Fault] = &[
     Fault { name: "a graph at depth 9 of too great a length", aims: 1, apply: |t, r| nest(t, r, 8, 1000) },
 ];
 
+/// For tags in raw bytes, which are not padded later.
+fn some_padding(rng: &mut Rng) -> usize {
+    if rng.chance(1, 3) {
+        rng.below(10)
+    } else {
+        0
+    }
+}
+
 fn any<'t>(tree: &'t mut Tree, rng: &mut Rng) -> &'t mut Tree {
     tree.pick_mut(rng, &|_| true).expect("a tree has itself")
 }
@@ -51,7 +60,7 @@ fn cut_value(tree: &mut Tree, rng: &mut Rng) -> bool {
     let number = if rng.chance(1, 2) { rng.pick(rows(inside.message)).number } else { 1 + rng.below(99) as u32 };
     let kind = *rng.pick(&[VARINT, EIGHT, BYTES, FOUR]);
     let mut bytes = Vec::new();
-    put_varint(&mut bytes, u64::from(number) << 3 | u64::from(kind), rng.below(3));
+    put_varint(&mut bytes, u64::from(number) << 3 | u64::from(kind), some_padding(rng));
     match kind {
         VARINT => bytes.extend(std::iter::repeat_n(0x80, rng.below(10))),
         BYTES => bytes.extend([[].as_slice(), &[0x80], &[1], &[5, 0, 0]][rng.below(4)]),
@@ -93,7 +102,7 @@ fn long_value(tree: &mut Tree, rng: &mut Rng, kind: u8) -> bool {
     let inside = any(tree, rng);
     let mut bytes = Vec::new();
     let unknown = wild::unknown(rng, inside.message).number;
-    put_varint(&mut bytes, u64::from(unknown) << 3 | u64::from(kind), 0);
+    put_varint(&mut bytes, u64::from(unknown) << 3 | u64::from(kind), some_padding(rng));
     bytes.extend(ten_bytes(rng));
     inside.insert(rng, Item::raw(bytes));
     true
@@ -101,7 +110,7 @@ fn long_value(tree: &mut Tree, rng: &mut Rng, kind: u8) -> bool {
 
 fn put_tag(tree: &mut Tree, rng: &mut Rng, tag: u64) -> bool {
     let mut bytes = Vec::new();
-    put_varint(&mut bytes, tag, if rng.chance(1, 3) { rng.below(9) } else { 0 });
+    put_varint(&mut bytes, tag, some_padding(rng));
     bytes.push(0);
     any(tree, rng).insert(rng, Item::raw(bytes));
     true
@@ -151,7 +160,7 @@ fn wrong_kind_cut(tree: &mut Tree, rng: &mut Rng) -> bool {
     let row = *rng.pick(rows(inside.message));
     let kind = kind_against(rng, row.form);
     let mut bytes = Vec::new();
-    put_varint(&mut bytes, u64::from(row.number) << 3 | u64::from(kind), 0);
+    put_varint(&mut bytes, u64::from(row.number) << 3 | u64::from(kind), some_padding(rng));
     inside.items.push(Item::raw(bytes));
     true
 }
@@ -190,7 +199,7 @@ fn repeat_cut(tree: &mut Tree, rng: &mut Rng) -> bool {
         _ => BYTES,
     };
     let mut bytes = Vec::new();
-    put_varint(&mut bytes, u64::from(inside.items[place].number) << 3 | u64::from(kind), 0);
+    put_varint(&mut bytes, u64::from(inside.items[place].number) << 3 | u64::from(kind), some_padding(rng));
     inside.items.push(Item::raw(bytes));
     true
 }

@@ -1,0 +1,133 @@
+"""The proved gate for Python: a model is accepted or refused before a runtime sees it.
+
+    import onnx_gate
+    operators = onnx_gate.operators([("ai.onnx", 7, 21), ("ai.onnx.ml", 1, 5)])
+    checked = onnx_gate.check_file("model.onnx", operators)
+    print(checked, checked.explanation)
+    if checked:
+        run(checked.model)
+
+The answer is that of the proved library; nothing here judges a model. `build.sh` makes the shared object that is loaded from beside
+this file, or from where ONNX_GATE_LIB says. `python -m onnx_gate MODEL...` checks files.
+"""
+
+import os
+from dataclasses import dataclass, field
+from operator import index
+
+from . import _library, _sizing
+from ._lists import operators
+from ._sizing import LARGEST_MODEL, SMALL
+from ._values import Bytes, copied, whole
+from .rules import RULES
+
+__version__ = "0.1.0"
+__all__ = ["LARGEST_MODEL", "RULES", "SMALL", "Answer", "CheckedFile", "check", "check_file", "operators", "show_name"]
+
+_FIRST = 65_536  # the most cells that a model starts with
+_GROWTH = 8  # the tries before the last have little more cells than it has, all together
+_MOST = 2**64 - 1  # of what crosses as 64 bits: ctypes would cut it
+
+
+@dataclass(frozen=True)
+class Answer:
+    """Accepted with two counts (`refusal` is 0), or refused with a number and a place. True where accepted."""
+
+    refusal: int
+    place: int
+    nodes: int
+    names: int
+
+    @property
+    def accepted(self) -> bool:
+        return self.refusal == 0
+
+    @property
+    def rule(self) -> str:
+        """A short name, such as input-not-visible; empty where accepted."""
+        return RULES.get(self.refusal, ("", ""))[0]
+
+    @property
+    def explanation(self) -> str:
+        """The rule that is broken, in one line; empty where accepted."""
+        return RULES.get(self.refusal, ("", ""))[1]
+
+    def __bool__(self) -> bool:
+        return self.accepted
+
+    def __str__(self) -> str:
+        if self.accepted:
+            return f"accepted nodes {self.nodes} names {self.names}"
+        return f"refused {self.refusal} at {self.place}"
+
+
+@dataclass(frozen=True)
+class CheckedFile(Answer):
+    """The answer for a file, and the bytes that it is about: a file that is read again may be another one."""
+
+    model: bytes = field(repr=False)
+    """What was checked, for the runtime; empty where it was refused."""
+
+
+def check(
+    model: Bytes, operators: Bytes, cells: int | None = None, extra: int | None = None, seed: int | None = None
+) -> Answer:
+    """Accepts or refuses the bytes `model` for a runtime that has `operators`.
+
+    cells  how many names may be visible at once, beyond which the answer is 40; without it as many as the model needs
+    extra  how many extra cells are lent beside exactly `cells` cells: fewer than four times as many are refused with 65.
+           Without it there are enough for the time to grow no faster than the model
+    seed   how names are spread over the index, from 0 to 2**64 - 1. No answer depends on it. Without it a random one is drawn,
+           so that no model can be made to stall the check
+
+    What is not plain `bytes` is copied first: no change of it by others, and nothing that its class says, reaches the library.
+
+    Memory: under 10 MB for a model of up to `SMALL` bytes. For a larger one 20 bytes for each name and 16 for each initializer,
+    named node, attribute and import; where these are too many to count in Python, 2.3 times the model's size and 20 bytes for
+    each cell, of which there are eight times more, from 65,536 on, as long as the model has more names. Never above 601 MB.
+    """
+    model, operators = copied(model), copied(operators)
+    seed = int.from_bytes(os.urandom(8), "little") if seed is None else whole(seed, "seed", 0, _MOST)
+    if cells is not None:
+        cells = whole(cells, "cells", 0, _MOST)
+    if extra is None:
+        return _sized(model, operators, len(model) if cells is None else cells, seed)
+    if cells is None:
+        raise ValueError("extra says how many beside how many cells: give both")
+    return _indexed(model, operators, cells, whole(extra, "extra", 0, _MOST), seed)
+
+
+def check_file(
+    path: str | os.PathLike[str], operators: Bytes, cells: int | None = None, seed: int | None = None
+) -> CheckedFile:
+    """As `check`, for the bytes of a file, which is read once and no further than the library has to see."""
+    with open(os.fspath(path), "rb") as file:
+        model = file.read(LARGEST_MODEL + 1)
+    found = check(model, operators, cells, seed=seed)
+    return CheckedFile(found.refusal, found.place, found.nodes, found.names, model if found else b"")
+
+
+def show_name(model: Bytes, start: int, length: int) -> bytes:
+    """The part of `model` that lies there, or the empty part where the range does not fit."""
+    model, start, length = copied(model), index(start), index(length)
+    if not (0 <= start <= _MOST and 0 <= length <= _MOST):
+        return b""
+    part = _library.show_name(model, start, length)
+    return model[part.start : part.start + part.length]
+
+
+def _indexed(model: bytes, operators: bytes, cells: int, extra: int, seed: int) -> Answer:
+    found = _library.check_indexed(model, operators, cells, extra, seed)
+    return Answer(found.refusal, found.place, found.nodes, found.names)
+
+
+def _sized(model: bytes, operators: bytes, limit: int, seed: int) -> Answer:
+    """Starts with few cells where a model may have many names, and gives more after a 40: no other answer depends on them."""
+    names, lists = _sizing.needed(model)
+    most = min(len(model) // _sizing.LEAST_NAME, limit)
+    cells = min(names, most, _FIRST) if len(model) > SMALL else most
+    while True:
+        answer = _indexed(model, operators, cells, 4 * cells + 2 + 4 * lists, seed)
+        if answer.refusal != 40 or cells == most:
+            return answer
+        cells = min(max(cells, _FIRST) * _GROWTH, most)

@@ -1,0 +1,52 @@
+"""The shared object: where it is, and its functions."""
+
+import ctypes
+import os
+from pathlib import Path
+
+
+class Answer4(ctypes.Structure):
+    _fields_ = [(name, ctypes.c_uint64) for name in ("refusal", "place", "nodes", "names")]
+
+
+class Part(ctypes.Structure):
+    _fields_ = [("start", ctypes.c_uint64), ("length", ctypes.c_uint64)]
+
+
+def _path() -> Path:
+    """An absolute path: what has no slash in it would be looked for wherever the system keeps libraries."""
+    named = os.environ.get("ONNX_GATE_LIB")
+    path = Path(__file__).with_name("libonnx_gate.so") if named is None else Path(named)
+    path = Path(os.path.abspath(path))
+    if not path.is_file():
+        raise ImportError(f"{path} is missing: run bindings/python/build.sh, or let ONNX_GATE_LIB name another file")
+    return path
+
+
+def _load() -> ctypes.CDLL:
+    path = _path()
+    try:
+        library = ctypes.CDLL(str(path))
+        library.onnx_gate_check_indexed, library.onnx_gate_show_name
+    except (OSError, AttributeError) as error:
+        raise ImportError(f"{path} is not the gate's library: run bindings/python/build.sh again ({error})") from None
+    size, cells = ctypes.c_size_t, ctypes.POINTER(ctypes.c_uint32)
+    lent = [ctypes.c_char_p, size, ctypes.c_char_p, size, cells, size, cells, size]
+    library.onnx_gate_check_indexed.argtypes = [*lent, ctypes.c_uint64]
+    library.onnx_gate_check_indexed.restype = Answer4
+    library.onnx_gate_show_name.argtypes = [ctypes.c_char_p, size, ctypes.c_uint64, ctypes.c_uint64]
+    library.onnx_gate_show_name.restype = Part
+    return library
+
+
+_library = _load()
+
+
+def check_indexed(model: bytes, operators: bytes, cells: int, extra: int, seed: int) -> Answer4:
+    """The indexed check in so many cells and extra cells. `model` and `operators` are bytes and of no class made from it."""
+    own, more = (ctypes.c_uint32 * cells)(), (ctypes.c_uint32 * extra)()  # zeroed
+    return _library.onnx_gate_check_indexed(model, len(model), operators, len(operators), own, cells, more, extra, seed)
+
+
+def show_name(model: bytes, start: int, length: int) -> Part:
+    return _library.onnx_gate_show_name(model, len(model), start, length)

@@ -1,0 +1,52 @@
+#!/usr/bin/env python3
+"""Says whether C, Rust and Python have the same refusals, number, name and explanation, and the same version. Status 1 where not."""
+
+import ast
+import re
+import sys
+from pathlib import Path
+
+BINDINGS = Path(__file__).resolve().parent.parent / "bindings"
+HEADER = (BINDINGS / "c/onnx_gate.h").read_text()
+PYTHON = BINDINGS / "python/onnx_gate"
+
+
+def of_c():
+    enum = re.search(r"enum onnx_gate_refusal \{(.*?)\};", HEADER, re.DOTALL)[1]
+    rows = re.findall(r"ONNX_GATE_(\w+) = (\d+),?\s*/\*(.*?)\*/", enum, re.DOTALL)
+    return {int(number): (name.lower().replace("_", "-"), " ".join(text.split())) for name, number, text in rows}
+
+
+def of_rust():
+    rows = re.findall(r'of\(\s*(\d+),\s*"(.*?)",\s*"(.*?)",?\s*\)', (BINDINGS / "rust/src/rules.rs").read_text())
+    return {int(number): (name, text) for number, name, text in rows}
+
+
+def of_python():
+    """Read and not imported, since an import needs the shared object."""
+    tree = ast.parse((PYTHON / "rules.py").read_text())
+    return next(ast.literal_eval(item.value) for item in tree.body if isinstance(item, ast.Assign))
+
+
+def versions():
+    found = {
+        "C": re.search(r'ONNX_GATE_VERSION "(.*)"', HEADER),
+        "Rust": re.search(r'^version = "(.*)"', (BINDINGS / "rust/Cargo.toml").read_text(), re.MULTILINE),
+        "Python": re.search(r'^__version__ = "(.*)"', (PYTHON / "__init__.py").read_text(), re.MULTILINE),
+    }
+    return {language: match[1] for language, match in found.items()}
+
+
+def main():
+    rust, wrong = of_rust(), []
+    for language, table in {"C": of_c(), "Python": of_python()}.items():
+        wrong += [f"{language}: {table.get(n)}, Rust: {rust.get(n)} for {n}" for n in rust.keys() | table if table.get(n) != rust.get(n)]
+    if len(set(versions().values())) != 1:
+        wrong.append(f"versions: {versions()}")
+    if wrong or len(rust) < 35:
+        sys.exit("\n".join(["same_rules.py: the bindings differ", *wrong]))
+    print(f"{len(rust)} refusals and the version are the same in C, Rust and Python")
+
+
+if __name__ == "__main__":
+    main()
