@@ -41,6 +41,16 @@ pub const GRAPHS: &[GraphRow] = &[
 pub const MODELS: &[ModelRow] = &[
     ("1, no value behind a padded tag", "88 00", 1, 0),
     ("1, a padded length", "08 08 3A 81 00", 1, 2),
+    // a message ends in a varint, which the bytes behind it would complete: to a tag that is 4 or 5, a number, a length
+    ("1, a tag of two bytes cut, else 4", "3A 01 88 00", 1, 2),
+    ("1, a tag of three bytes cut, else 4", "3A 02 88 80 00", 1, 2),
+    ("1, a tag of four bytes cut, else 4", "3A 03 88 80 80 00", 1, 2),
+    ("1, a tag of two bytes cut, else 5", "3A 04 12 01 67 92 00 00", 1, 5),
+    ("1, a tag of three bytes cut, else 5", "3A 05 12 01 67 92 80 00 00", 1, 5),
+    ("1, a number of two bytes cut", "08 08 42 02 10 8D 00 3A 03 12 01 67", 1, 4),
+    ("1, a number of three bytes cut", "08 08 42 03 10 8D 80 00 3A 03 12 01 67", 1, 4),
+    ("1, a length of two bytes cut", "08 08 42 02 10 0D 3A 02 12 80 00", 1, 8),
+    ("1, a length of three bytes cut", "08 08 42 02 10 0D 3A 03 12 80 80 00", 1, 8),
     ("2 behind a padded tag", "88 00 FF FF FF FF FF FF FF FF FF 02", 2, 0),
     ("3, field 0 padded", "80 00 00", 3, 0),
     ("3, wire type 3 padded", "8B 00 00", 3, 0),
