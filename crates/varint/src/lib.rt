@@ -5,7 +5,6 @@ mod varints;
 
 pub use slices::between;
 pub use slices::same_bytes;
-pub use varints::byte_at;
 pub use varints::read_varint;
 pub use varints::wide;
 

@@ -10,7 +10,7 @@ use crate::Varint;
 use crate::VarintAnswer;
 
 // The byte at a position, 0 past the end.
-pub fn byte_at(s: &[u8], pos: usize) -> u64
+fn byte_at(s: &[u8], pos: usize) -> u64
     ensures { λ r. ⌜ (r ≡ byte (now (s .entry)) pos) × (r < 256) ⌝ }
 {
     if pos < s.len() {
