@@ -1,4 +1,5 @@
-//! The plain checker: document 01's rules over a standard map, written from that page alone.
+//! The plain checker: document 01's rules over a standard map, written from that page and its readings,
+//! and not from the crates.
 //! It is linear in the model: each message is scanned a fixed number of times, names go through hashing.
 
 use std::collections::HashSet;

@@ -1,4 +1,4 @@
-//! Tests of the gate from outside: a checker and a runner written from document 01 alone, a generator of models,
+//! Tests of the gate from outside: a checker and a runner written from document 01 and its readings, a generator of models,
 //! and the comparison of the proved library with them.
 
 pub mod aimed;
