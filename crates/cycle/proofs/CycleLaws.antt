@@ -21,7 +21,7 @@ use Rattle.scope.specs.Scope.{walkIn, stepSays, grows, Enters, counted, Keeps}
 use Rattle.scope.specs.declared.scopes.Progress.{Progress}
 use Rattle.scope.specs.declared.scopes.Step.{Step}
 use Rattle.scope.specs.declared.scopes.Step.the-variants as step
-use Rattle.parts.proofs.StepLaws.{Adder, Adding, adding-start, adding-done, adding-falls, adding-stops, adding-goes}
+use Rattle.scope.proofs.StepLaws.{Adder, Adding, adding-start, adding-done, adding-falls, adding-stops, adding-goes}
 
 pub record Going (model : Bytes) (number end start : ℕ) (rule : Adder) (o : Judged Walk) (first : List ℕ) (p : Progress) (cells : List ℕ) (q : Progress) (c : Cursor) : Type 0 where
   pub adding : Adding model number end rule o first p cells q c

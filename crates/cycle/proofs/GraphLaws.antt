@@ -28,7 +28,7 @@ use Rattle.rules.specs.Graph.{output}
 use Rattle.scope.specs.Scope.{scopeIn, walkIn, stepSays, standing, left, grows, Enters, counted, Keeps}
 use Rattle.values.specs.Answers.{rulingSays}
 use Rattle.messages.specs.Heads.{attributeRules}
-use Rattle.parts.specs.Again.{context, nodeRules, opening, closing, attributeAgain, nodeAgain, graphFrom, graphAgain}
+use Rattle.messages.specs.Again.{context, nodeRules, opening, closing, attributeAgain, nodeAgain, graphFrom, graphAgain}
 use Rattle.values.specs.declared.Ruling.{Ruling}
 use Rattle.values.specs.declared.Ruling.the-variants as ruling
 use Rattle.scope.specs.declared.scopes.Progress.{Progress}
@@ -36,7 +36,7 @@ use Rattle.scope.specs.declared.scopes.Step.{Step}
 use Rattle.scope.specs.declared.scopes.Step.the-variants as step
 use Rattle.scope.proofs.ScopeLaws.{scope-prefix, keeps-fewer, keeps-then}
 use Rattle.messages.proofs.AttributeLaws.{attribute-value}
-use Rattle.parts.proofs.StepLaws.{Adder}
+use Rattle.scope.proofs.StepLaws.{Adder}
 use Rattle.cycle.proofs.CycleLaws.{Going, enters-low, going-few, going-done, going-stops, going-goes}
 use Rattle.values.proofs.RulingLaws.{ruled-kept}
 use Rattle.parts.proofs.OpeningLaws.{grows-then, opening-stays}

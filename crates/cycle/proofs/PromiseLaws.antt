@@ -25,7 +25,7 @@ use Rattle.scope.specs.declared.scopes.Progress.{Progress}
 use Rattle.scope.specs.declared.scopes.Step.{Step}
 use Rattle.scope.specs.declared.scopes.Step.the-variants as step
 use Rattle.scope.proofs.ScopeLaws.{keeps-all}
-use Rattle.parts.proofs.StepLaws.{Adder}
+use Rattle.scope.proofs.StepLaws.{Adder}
 use Rattle.cycle.proofs.CycleLaws.{Going, going-few, going-done, going-stops}
 use Rattle.values.proofs.RulingLaws.{ruled-kept, ruled-refused}
 

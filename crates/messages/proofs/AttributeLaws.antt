@@ -18,12 +18,12 @@ use Rattle.schema.specs.Answers.{silent}
 use Rattle.rules.specs.Names.{Name, nameIn, bodiesOf}
 use Rattle.rules.specs.Walk.{Walk, start, Along, leaving, naming}
 use Rattle.rules.specs.Node.{badValue, body, attribute}
-use Rattle.messages.specs.Earlier.{earlierIn}
+use Rattle.headers.specs.Earlier.{earlierIn}
 use Rattle.messages.specs.Heads.{passing, after, attributeRules}
 use Rattle.values.specs.Answers.{namingSays, nameField}
 use Rattle.values.specs.declared.names.Naming.{Naming}
 use Rattle.values.specs.declared.names.Naming.the-variants as naming-answer
-use Rattle.messages.proofs.Silent.{silent-rule, silent-last, silent-bind}
+use Rattle.headers.proofs.Silent.{silent-rule, silent-last, silent-bind}
 use Rattle.values.proofs.NameLaws.{empty-none, empty-some, nameSays, naming-says}
 
 bodies-pass : (w : Walk) (l : List Field) → each (body passing) w l ≡ pass w

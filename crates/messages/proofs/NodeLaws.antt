@@ -20,14 +20,14 @@ use Rattle.rules.specs.Identifier.{identifier}
 use Rattle.rules.specs.Names.{Name}
 use Rattle.rules.specs.Walk.{naming}
 use Rattle.rules.specs.Node.{nodeName}
-use Rattle.messages.specs.Imports.{importsIn}
+use Rattle.headers.specs.Imports.{importsIn}
 use Rattle.values.specs.Answers.{namingSays, nameField}
-use Rattle.messages.specs.Earlier.{earlierIn}
+use Rattle.headers.specs.Earlier.{earlierIn}
 use Rattle.messages.specs.Heads.{nodeHead}
 use Rattle.values.specs.declared.names.Naming.{Naming}
 use Rattle.values.specs.declared.names.Naming.the-variants as naming-answer
 use Rattle.values.proofs.NameLaws.{empty-none, empty-some, nameSays, naming-says}
-use Rattle.messages.proofs.Silent.{silent-rule, silent-last}
+use Rattle.headers.proofs.Silent.{silent-rule, silent-last}
 
 module _ (model : Bytes) (earlier : List Bytes) (m : Field) where
   -- the rule on a name and its place

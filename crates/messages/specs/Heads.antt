@@ -11,8 +11,8 @@ use Rattle.schema.specs.Numbers.{Graph·node, Node·name, Node·op-type, Node·
 use Rattle.schema.specs.Answers.{silent}
 use Rattle.rules.specs.Walk.{GraphJudge, start, Along, naming}
 use Rattle.rules.specs.Node.{nodeName, attribute}
-use Rattle.messages.specs.Earlier.{earlierIn}
-use Rattle.messages.specs.Imports.{importsIn}
+use Rattle.headers.specs.Earlier.{earlierIn}
+use Rattle.headers.specs.Imports.{importsIn}
 
 -- A judge of graphs that finds no fault: with it, only what is asked outside an attribute's graphs is left.
 unfoldable pub passing : GraphJudge

@@ -1,4 +1,2 @@
-pub mod Earlier
-pub mod Imports
-pub mod Imported
 pub mod Heads
+pub mod Again

@@ -2,10 +2,10 @@
 ghost use mathlib.Core.Path.{_≡_};
 ghost use Rattle.schema.specs.Numbers.{Node·attribute, Attribute·name};
 ghost use Rattle.index.specs.Listing.{Listed};
-ghost use Rattle.messages.specs.Earlier.{earlierIn};
+ghost use Rattle.headers.specs.Earlier.{earlierIn};
 ghost use Rattle.messages.specs.Heads.{attributeRules};
 ghost use Rattle.values.specs.Answers.{rulingSays};
-use crate::earlier::is_listed;
+use headers::is_listed;
 use index::Listing;
 use values::Naming;
 use values::Ruling;

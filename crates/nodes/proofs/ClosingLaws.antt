@@ -1,7 +1,7 @@
 -- A node after its attributes: outputs, and the count.
 use Prim.Native.Nat.{ℕ, _+_}
 use native.Mathlib.Omega.{arith}
-use mathlib.Core.Path.{_≡_, sym, ap, _∙_}
+use mathlib.Core.Path.{_≡_, refl, sym, ap, _∙_}
 use mathlib.Core.Bool.{Bool, true, false, not}
 use mathlib.Core.List.{List}
 use Rattle.varint.specs.Outcome.{pass, _>>=_, _>>_, each, Judged, refused}
@@ -10,19 +10,26 @@ use Rattle.wire.specs.declared.Field.{Field}
 use Rattle.varint.specs.Lists.{isEmpty, present}
 use Rattle.varint.specs.Bytes.{Bytes}
 use Rattle.wire.specs.Message.{allOf, firstOf, message}
+use Rattle.varint.proofs.Tells.{Any, any-all, tells-each}
 use Rattle.varint.proofs.Lists.{no-first}
-use Rattle.varint.proofs.Passing.{pass-same, passed-bind, passed-seq}
+use Rattle.varint.proofs.Passing.{pass-same, passed-tells, passed-bind, passed-seq}
 use Rattle.varint.proofs.Answers.{says}
 use Rattle.varint.proofs.Refusing.{when-broken, when-kept}
 use Rattle.schema.specs.Numbers.{Node·output}
 use Rattle.rules.specs.Walk.{Walk, withNode}
 use Rattle.rules.specs.Node.{nodeOutput}
 use Rattle.scope.specs.Scope.{walkIn, stepSays}
-use Rattle.parts.specs.Again.{closing}
+use Rattle.messages.specs.Again.{closing}
 use Rattle.scope.specs.declared.scopes.Progress.{Progress}
 use Rattle.scope.specs.declared.scopes.Step.{Step}
 use Rattle.scope.specs.declared.scopes.Step.the-variants as step
-use Rattle.parts.proofs.OpeningLaws.{outputs-stay}
+use Rattle.rules.proofs.Counting.{Stays, stays-output}
+
+-- no output counts a node
+module _ (model : Bytes) (full : ℕ → Bool) where
+  pub outputs-stay : (w : Walk) (l : List Field) (v : Walk) → each (nodeOutput model full) w l ≡ pass v → v .nodes ≡ w .nodes
+  outputs-stay w l v = passed-tells (Stays (w .nodes)) Any (each (nodeOutput model full) w l) v
+      (tells-each Any (Stays (w .nodes)) Any (nodeOutput model full) (λ u o s _. stays-output model full (w .nodes) u o s) l (any-all l) w refl)
 
 module _ (model : Bytes) (full : ℕ → Bool) (w : Walk) (f : Field) where
   abbrev Outputs : Judged Walk

@@ -21,7 +21,7 @@ use Rattle.values.specs.declared.Ruling.{Ruling}
 use Rattle.values.specs.declared.Ruling.the-variants as ruling
 use Rattle.values.proofs.RulingLaws.{ruled-kept, ruled-refused}
 use Rattle.values.proofs.NameLaws.{empty-none, empty-some}
-use Rattle.parts.specs.Again.{nodeRules}
+use Rattle.messages.specs.Again.{nodeRules}
 
 -- an input of a node
 module _ (model : Bytes) (scope : List Name) (f : Field) {x : Bytes} (t : x ≡ text model f) where

@@ -23,7 +23,7 @@ use Rattle.scope.specs.Scope.{nameAt}
 use Rattle.values.specs.Answers.{namingSays, nameField}
 use Rattle.values.specs.declared.names.Naming.{Naming}
 use Rattle.values.specs.declared.names.Naming.the-variants as naming-answer
-use Rattle.parts.proofs.InputLaws.{plain}
+use Rattle.scope.proofs.StepLaws.{plain}
 use Rattle.values.proofs.NameLaws.{empty-none, empty-some, nameSays, naming-says}
 
 -- an output of a node

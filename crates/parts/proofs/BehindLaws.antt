@@ -16,8 +16,8 @@ use Rattle.wire.proofs.Along.{allFrom, Onward, all-some}
 use Rattle.index.specs.Listing.{Listed, Held, Added}
 use Rattle.index.specs.declared.listings.Listing.{Listing}
 use Rattle.index.proofs.ListingLaws.{listed-held}
-use Rattle.messages.specs.Earlier.{before, namesIn, earlierIn}
-use Rattle.messages.proofs.EarlierLaws.{before-split, names-last}
+use Rattle.headers.specs.Earlier.{before, namesIn, earlierIn}
+use Rattle.headers.proofs.EarlierLaws.{before-split, names-last}
 
 pub record Behind (model : Bytes) (seed number name : ℕ) (m : Field) (lists : List ℕ) (l : Listing) (c : Cursor) : Type 0 where
   pub pre : List Field

@@ -17,9 +17,9 @@ use Rattle.rules.specs.Walk.{Walk, visible, naming, define}
 use Rattle.rules.specs.Types.{isElement}
 use Rattle.rules.specs.Graph.{isDefault, defaultOrNew}
 use Rattle.values.proofs.NameLaws.{nameSays, naming-says}
-use Rattle.messages.specs.Earlier.{earlierIn}
+use Rattle.headers.specs.Earlier.{earlierIn}
 use Rattle.scope.specs.Scope.{nameAt, scopeIn, walkIn, stepSays, grows, Keeps, Defaultable}
-use Rattle.parts.specs.Again.{context, initializerAgain}
+use Rattle.messages.specs.Again.{context, initializerAgain}
 use Rattle.values.specs.Answers.{namingSays, nameField}
 use Rattle.values.specs.declared.names.Naming.{Naming}
 use Rattle.values.specs.declared.names.Naming.the-variants as naming-answer

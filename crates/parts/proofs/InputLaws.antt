@@ -16,6 +16,7 @@ use Rattle.rules.specs.Names.{Name, nameIn}
 use Rattle.rules.specs.Walk.{Context, inMain, Walk, naming, define}
 use Rattle.rules.specs.Types.{declaredType}
 use Rattle.rules.specs.Graph.{input}
+use Rattle.scope.proofs.StepLaws.{plain}
 use Rattle.scope.specs.Scope.{nameAt, walkIn, stepSays}
 use Rattle.values.specs.Answers.{rulingSays, namingSays, nameField}
 use Rattle.values.specs.declared.names.Naming.{Naming}
@@ -30,9 +31,6 @@ use Rattle.scope.proofs.ScopeLaws.{name-there}
 use Rattle.values.proofs.RulingLaws.{ruled-kept, ruled-refused}
 
 -- an input's rule asks of its graph only whether it is the main one
-abbrev pub plain : Bool → Context
-plain main = record { imports = []; main = main }
-
 pub inputs-any : (model : Bytes) (full : ℕ → Bool) (main : Bool) (k : Context)
     → k .main ≡ main → (w : Walk) (l : List Field)
     → each (input model full (plain main)) w l ≡ each (input model full k) w l

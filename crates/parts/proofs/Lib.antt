@@ -1,6 +1,5 @@
 pub mod BehindLaws
 pub mod ListsLaws
-pub mod StepLaws
 pub mod InputLaws
 pub mod InitializerLaws
 pub mod OpeningLaws

@@ -17,7 +17,7 @@ use Rattle.index.specs.Memory.{known}
 use Rattle.index.specs.Listing.{Listed}
 use Rattle.index.specs.declared.listings.Listing.{Listing}
 use Rattle.index.proofs.ListingLaws.{listed-begin}
-use Rattle.messages.specs.Earlier.{earlierIn}
+use Rattle.headers.specs.Earlier.{earlierIn}
 use Rattle.scope.specs.Recall.{Recalling, AddedOn, Minded, Minds}
 use Rattle.scope.specs.declared.remembered.Index.{Index}
 use Rattle.scope.proofs.RecallLaws.{minded-none, minded-then, minded-fewer, minded-added, minds-still}

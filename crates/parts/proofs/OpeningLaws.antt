@@ -21,13 +21,12 @@ use Rattle.schema.specs.Answers.{silent}
 use Rattle.rules.specs.Names.{Name, nameOf, inputsOf}
 use Rattle.rules.specs.Walk.{Context, Walk, Along, withName, visible, naming, define}
 use Rattle.rules.specs.Verdict.{fills}
-use Rattle.rules.specs.Node.{nodeOutput}
 use Rattle.rules.specs.Graph.{input, defaultOrNew}
-use Rattle.rules.proofs.Counting.{after, past, Stays, stays-output, stays-input, stays-default}
+use Rattle.rules.proofs.Counting.{after, past, Stays, stays-input, stays-default}
 use Rattle.scope.specs.Scope.{scopeIn, walkIn, stepSays, standing, grows, Keeps, Defaultable}
-use Rattle.parts.specs.Again.{context, graphRules, initializerAgain, opening}
+use Rattle.messages.specs.Again.{context, graphRules, initializerAgain, opening}
 use Rattle.values.proofs.NameLaws.{nameSays, naming-says}
-use Rattle.messages.specs.Earlier.{earlierIn}
+use Rattle.headers.specs.Earlier.{earlierIn}
 use Rattle.values.specs.Answers.{rulingSays, namingSays, nameField}
 use Rattle.values.specs.declared.names.Naming.{Naming}
 use Rattle.values.specs.declared.names.Naming.the-variants as naming-answer
@@ -120,10 +119,6 @@ module _ (model : Bytes) (main : Bool) (cells : List ℕ) (p : Progress) (f : Fi
 -- ---- nodes are counted nowhere here
 
 module _ (model : Bytes) (full : ℕ → Bool) where
-  pub outputs-stay : (w : Walk) (l : List Field) (v : Walk) → each (nodeOutput model full) w l ≡ pass v → v .nodes ≡ w .nodes
-  outputs-stay w l v = passed-tells (Stays (w .nodes)) Any (each (nodeOutput model full) w l) v
-      (tells-each Any (Stays (w .nodes)) Any (nodeOutput model full) (λ u o s _. stays-output model full (w .nodes) u o s) l (any-all l) w refl)
-
   module _ (main : Bool) where
     initializer-stays : (n : ℕ) (graph : Field) (w : Walk) (f : Field) → Stays n w → Tells (Stays n) Any (initializerAgain model full main graph w f)
     unfolding initializerAgain

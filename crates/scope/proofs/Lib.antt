@@ -1,3 +1,4 @@
 pub mod ScopeLaws
 pub mod SplitLaws
 pub mod RecallLaws
+pub mod StepLaws

@@ -16,7 +16,7 @@ use Rattle.index.specs.Listing.{Held}
 use Rattle.index.specs.declared.listings.Listing.{Listing}
 use Rattle.index.proofs.UseLaws.{indexed-none, seek-member}
 use Rattle.index.proofs.ListingLaws.{held-all, held-fewer, held-then}
-use Rattle.messages.proofs.ListedLaws.{imported-held}
+use Rattle.headers.proofs.ListedLaws.{imported-held}
 use Rattle.rules.specs.Names.{Name, nameIn}
 use Rattle.rules.specs.Walk.{visible}
 use Rattle.scope.specs.Scope.{nameAt, scopeIn}

@@ -11,8 +11,8 @@ use Rattle.index.specs.Table.{Indexed}
 use Rattle.index.specs.Memory.{known, tableOf, Remembers, Remembered}
 use Rattle.index.specs.Listing.{Held, Added}
 use Rattle.index.specs.declared.listings.Listing.{Listing}
-use Rattle.messages.specs.Imports.{importsIn}
-use Rattle.messages.specs.Imported.{Imported}
+use Rattle.headers.specs.Imports.{importsIn}
+use Rattle.headers.specs.Imported.{Imported}
 use Rattle.scope.specs.Scope.{nameAt}
 use Rattle.scope.specs.declared.remembered.Index.{Index}
 

@@ -10,11 +10,11 @@ use Rattle.varint.specs.Bytes.{Bytes}
 use Rattle.index.specs.Table.{Indexed}
 use Rattle.index.specs.Memory.{known, tableOf}
 use Rattle.index.specs.Listing.{Held}
-use Rattle.messages.specs.Imports.{importsIn}
-use Rattle.messages.specs.Imported.{Imported, holds}
-use Rattle.messages.specs.declared.imports.Imports.{Imports}
-use Rattle.messages.specs.declared.imports.Heading.{Heading}
-use Rattle.messages.specs.declared.imports.Heading.the-variants as heading
+use Rattle.headers.specs.Imports.{importsIn}
+use Rattle.headers.specs.Imported.{Imported, holds}
+use Rattle.headers.specs.declared.imports.Imports.{Imports}
+use Rattle.headers.specs.declared.imports.Heading.{Heading}
+use Rattle.headers.specs.declared.imports.Heading.the-variants as heading
 use Rattle.scope.specs.Recall.{Recalls, Recalling, Minds}
 use Rattle.scope.specs.declared.remembered.Index.{Index}
 use Rattle.scope.proofs.SplitLaws.{others-lent, put-others, take-first, drop-first}

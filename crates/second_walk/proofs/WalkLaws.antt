@@ -26,14 +26,14 @@ use Rattle.rules.specs.Graph.{graph}
 use Rattle.rules.specs.Header.{header, secondWalkTo, secondWalk}
 use Rattle.values.specs.Answers.{rulingSays}
 use Rattle.scope.specs.Scope.{scopeIn, walkIn, stepSays, standing, Enters}
-use Rattle.parts.specs.Again.{graphAgain}
+use Rattle.messages.specs.Again.{graphAgain}
 use Rattle.values.specs.declared.Ruling.{Ruling}
 use Rattle.values.specs.declared.Ruling.the-variants as ruling
 use Rattle.scope.specs.declared.scopes.Progress.{Progress}
 use Rattle.scope.specs.declared.scopes.Step.{Step}
-use Rattle.messages.proofs.Silent.{silent-fails, silent-passes}
+use Rattle.headers.proofs.Silent.{silent-fails, silent-passes}
 use Rattle.values.proofs.RulingLaws.{ruled-kept, ruled-refused}
-use Rattle.messages.proofs.HeaderLaws.{header-imports}
+use Rattle.headers.proofs.HeaderLaws.{header-imports}
 use Rattle.second_walk.proofs.AgainLaws.{graph-again}
 
 -- ---- the second walk: r is the ruling on the header, m the whole model, a what is found of its graph

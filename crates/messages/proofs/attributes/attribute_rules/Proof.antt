@@ -1,7 +1,7 @@
 use Rattle.values.proofs.NameLaws.{named-some}
 use mathlib.Core.Path.{_∙_}
 use Rattle.values.specs.Answers.{rulingSays}
-use Rattle.messages.specs.Earlier.{earlierIn}
+use Rattle.headers.specs.Earlier.{earlierIn}
 use Rattle.messages.specs.Heads.{attributeRules}
 use Rattle.messages.proofs.AttributeLaws.{attribute-nameless, attribute-twice, attribute-refers, attribute-bad, attribute-good}
 use borrow.Author.Needs.{needs}

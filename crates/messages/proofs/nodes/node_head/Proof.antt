@@ -1,4 +1,4 @@
-use Rattle.messages.proofs.ImportLaws.{imports-all}
+use Rattle.headers.proofs.ImportLaws.{imports-all}
 use mathlib.Core.Path.{ap, _∙_}
 use Rattle.varint.specs.Bytes.{member}
 use borrow.Author.Tests.{not-true, not-false}

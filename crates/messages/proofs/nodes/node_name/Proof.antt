@@ -2,7 +2,7 @@ use Rattle.values.proofs.NameLaws.{empty-some}
 use mathlib.Core.Path.{_∙_}
 use borrow.Author.Tests.{not-true, not-false}
 use Rattle.wire.proofs.MessageLaws.{missing, found}
-use Rattle.messages.specs.Earlier.{earlierIn}
+use Rattle.headers.specs.Earlier.{earlierIn}
 use Rattle.values.specs.Answers.{rulingSays}
 use Rattle.messages.proofs.NodeLaws.{node-nameless, node-unnamed, node-misnamed, node-twice, node-named}
 use borrow.Author.Needs.{needs}

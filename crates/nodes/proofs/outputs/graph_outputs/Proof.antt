@@ -7,7 +7,7 @@ use Rattle.rules.specs.Graph.{output}
 use Rattle.scope.specs.Scope.{scopeIn}
 use Rattle.values.specs.Answers.{rulingSays}
 use Rattle.values.proofs.RulingLaws.{rule-stops, rule-goes}
-use Rattle.parts.proofs.InputLaws.{plain}
+use Rattle.scope.proofs.StepLaws.{plain}
 use Rattle.nodes.proofs.OutputLaws.{outputs-any}
 use borrow.Author.Needs.{needs}
 use Rattle.nodes.proofs.outputs.graph_outputs.Statement.{statement}

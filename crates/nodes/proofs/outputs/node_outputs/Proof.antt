@@ -9,7 +9,7 @@ use Rattle.rules.specs.Verdict.{fills}
 use Rattle.rules.specs.Node.{nodeOutput}
 use Rattle.scope.specs.Scope.{walkIn}
 use Rattle.scope.specs.Recall.{Recalled}
-use Rattle.parts.proofs.StepLaws.{Adding, adding-start, adding-done, adding-falls, adding-placed, adding-named, adding-stops, adding-goes}
+use Rattle.scope.proofs.StepLaws.{Adding, adding-start, adding-done, adding-falls, adding-placed, adding-named, adding-stops, adding-goes}
 use borrow.Author.Needs.{needs}
 use Rattle.nodes.proofs.outputs.node_outputs.Statement.{statement}
 use Rattle.nodes.proofs.outputs.node_outputs.Tie as tie

@@ -14,8 +14,8 @@ use Rattle.wire.proofs.Along.{allFrom, along-start, along-contents, contents-in
 use Rattle.schema.specs.Numbers.{Graph·initializer}
 use Rattle.rules.specs.Verdict.{fills}
 use Rattle.scope.specs.Scope.{walkIn}
-use Rattle.parts.specs.Again.{initializerAgain}
-use Rattle.parts.proofs.StepLaws.{Adding, adding-start, adding-done, adding-falls, adding-inside, adding-stops, adding-goes}
+use Rattle.messages.specs.Again.{initializerAgain}
+use Rattle.scope.proofs.StepLaws.{Adding, adding-start, adding-done, adding-falls, adding-inside, adding-stops, adding-goes}
 use borrow.Author.Needs.{needs}
 use Rattle.parts.proofs.initializers.initializers.Statement.{statement}
 use Rattle.parts.proofs.initializers.initializers.Tie as tie

@@ -1,4 +1,4 @@
-use Rattle.messages.specs.Earlier.{earlierIn}
+use Rattle.headers.specs.Earlier.{earlierIn}
 use Rattle.scope.proofs.SplitLaws.{others-lent}
 use borrow.Author.Needs.{needs}
 use Rattle.parts.proofs.initializers.is_repeated.Statement.{statement}

@@ -10,8 +10,9 @@ use Rattle.rules.specs.Verdict.{fills}
 use Rattle.rules.specs.Graph.{input}
 use Rattle.scope.specs.Scope.{walkIn}
 use Rattle.scope.specs.Recall.{Recalled}
-use Rattle.parts.proofs.InputLaws.{plain, inputs-any}
-use Rattle.parts.proofs.StepLaws.{Adding, adding-start, adding-done, adding-falls, adding-inside, adding-stops, adding-goes}
+use Rattle.scope.proofs.StepLaws.{plain}
+use Rattle.parts.proofs.InputLaws.{inputs-any}
+use Rattle.scope.proofs.StepLaws.{Adding, adding-start, adding-done, adding-falls, adding-inside, adding-stops, adding-goes}
 use borrow.Author.Needs.{needs}
 use Rattle.parts.proofs.inputs.inputs.Statement.{statement}
 use Rattle.parts.proofs.inputs.inputs.Tie as tie

@@ -11,7 +11,7 @@ use Rattle.schema.specs.Numbers.{Graph·node, Node·name}
 use Rattle.rules.specs.Verdict.{fills}
 use Rattle.scope.specs.Scope.{walkIn}
 use Rattle.scope.specs.Recall.{Minds}
-use Rattle.parts.specs.Again.{context, nodeAgain}
+use Rattle.messages.specs.Again.{context, nodeAgain}
 use Rattle.scope.proofs.ScopeLaws.{keeps-all}
 use Rattle.scope.proofs.RecallLaws.{minded-none, minded-then, minded-fewer, minds-still, minds-higher}
 use Rattle.parts.proofs.ListsLaws.{Lists, lists-start, lists-fits, lists-found, lists-next, lists-minds}

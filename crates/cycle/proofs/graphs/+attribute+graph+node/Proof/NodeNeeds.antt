@@ -9,7 +9,7 @@ use Rattle.schema.specs.Numbers.{Node·attribute, Attribute·name}
 use Rattle.rules.specs.Verdict.{fills}
 use Rattle.scope.specs.Scope.{walkIn}
 use Rattle.scope.specs.Recall.{Minds}
-use Rattle.parts.specs.Again.{attributeAgain}
+use Rattle.messages.specs.Again.{attributeAgain}
 use Rattle.scope.proofs.RecallLaws.{minded-none, minded-recalled, minded-then, minded-fewer, minds-higher}
 use Rattle.parts.proofs.ListsLaws.{Lists, lists-start, lists-fits, lists-found, lists-next, lists-minds}
 use Rattle.cycle.proofs.CycleLaws.{Going, enters-low, going-start, going-falls, going-enters, going-shorter, going-goes}

@@ -1,0 +1,181 @@
+-- The rules of the header in the order of the code's tests.
+use Prim.Native.Nat.{ℕ, _≤_, _<_}
+use mathlib.Core.Path.{_≡_, refl, sym, ap, subst, _∙_}
+use mathlib.Core.Bool.{Bool, true, false, not}
+use mathlib.Core.List.{List, []}
+use mathlib.Core.Option.{Option, none, some}
+use lib.Dec.{leb}
+use borrow.Author.Tests.{le-leb, lt-leb}
+use Rattle.varint.specs.Outcome.{pass, _>>=_, _>>_, each, Judged, Rule, refused, refuse_at:_when:_}
+use Rattle.varint.specs.Lists.{isEmpty, present, within}
+use Rattle.varint.specs.Bytes.{Bytes, member}
+use Rattle.wire.specs.Message.{allOf, firstOf, numberOf, placeOf, message, whole}
+use Rattle.varint.specs.declared.Refusal.{Refusal}
+use Rattle.wire.specs.declared.Field.{Field}
+use Rattle.wire.specs.declared.outlines.Outline.{Outline}
+use Rattle.wire.specs.Outline.{Starts, Outlines}
+use Rattle.varint.proofs.Lists.{no-first}
+use Rattle.varint.proofs.Passing.{pass-same, passed-bind, passed-seq}
+use Rattle.varint.proofs.Refusing.{when-broken, when-kept}
+use Rattle.schema.specs.Numbers.{Model·ir-version, Model·graph, Model·opset-import, Model·functions}
+use Rattle.schema.specs.Answers.{silent}
+use Rattle.rules.specs.Header.{opsetImport, header}
+use Rattle.headers.specs.Imports.{importsIn}
+use Rattle.values.specs.Answers.{rulingSays}
+use Rattle.headers.specs.Imported.{Outlined, rulingOf, headed, holds}
+use Rattle.headers.specs.declared.imports.Imports.{Imports}
+use Rattle.headers.specs.declared.imports.Heading.{Heading}
+use Rattle.headers.specs.declared.imports.Heading.the-variants as heading
+use Rattle.values.specs.declared.Ruling.{Ruling}
+use Rattle.values.specs.declared.Ruling.the-variants as ruling
+use Rattle.headers.proofs.ImportLaws.{All, imports-agree}
+use Rattle.headers.proofs.Silent.{silent-fails, silent-passes}
+use Rattle.values.proofs.RulingLaws.{ruled-kept, ruled-refused}
+
+pub version-below : (n : ℕ) → n < 4 → false ≡ within 4 10 n
+unfolding within
+version-below n h = simp (lt-leb 4 n h)
+
+pub version-rest : (n : ℕ) → 4 ≤ n → leb n 10 ≡ within 4 10 n
+unfolding within
+version-rest n h = simp (le-leb 4 n h)
+
+-- ---- one reading of the model's own fields
+
+pub outlined : (model : Bytes) {m : Field} → m ≡ whole model → {o : Outline}
+    → Outlines model m Model·ir-version Model·graph Model·opset-import Model·functions 0 0 o → Outlined model o
+outlined model em {o} k = record {
+  version = subst (λ (m : Field). Starts model m Model·ir-version (o .first)) em (k .0);
+  graph = subst (λ (m : Field). Starts model m Model·graph (o .second)) em (k .1);
+  imports = subst (λ (m : Field). Starts model m Model·opset-import (o .third)) em (k .2);
+  functions = subst (λ (m : Field). Starts model m Model·functions (o .fourth)) em (k .3);
+  rest = subst (λ (m : Field). Starts model m 0 (o .fifth) × Starts model m 0 (o .sixth)) em (k .4, k .5);
+}
+
+-- ---- the answer of the header, as a ruling
+
+module _ (i : Imports) {r : Heading} (q : Ruling) (e : r ≡ headed i q) where
+  pub headed-same : rulingOf r ≡ q
+  unfolding rulingOf headed
+  headed-same = ap rulingOf e ∙ go q
+    where
+      go : (q : Ruling) → rulingOf (headed i q) ≡ q
+      go ruling.Kept = refl
+      go (ruling.Refused x) = refl
+
+  pub headed-holds : {x : Refusal} → q ≡ ruling.Refused x → (model : Bytes) (seed : ℕ) (lists : List ℕ) → holds model seed lists r
+  unfolding holds headed
+  headed-holds k model seed lists = rw (e ∙ ap (headed i) k) tt
+
+module _ {h : Heading} where
+  pub refused-heading : {x : Refusal} → h ≡ heading.Refused x → rulingOf h ≡ ruling.Refused x
+  unfolding rulingOf
+  refused-heading e = ap rulingOf e
+
+  pub imported-heading : {i : Imports} → h ≡ heading.Imported i → rulingOf h ≡ ruling.Kept
+  unfolding rulingOf
+  imported-heading e = ap rulingOf e
+
+  pub holds-as : {g : Heading} → h ≡ g → (model : Bytes) (seed : ℕ) (lists : List ℕ) → holds model seed lists h → holds model seed lists g
+  holds-as e model seed lists k = subst (λ (x : Heading). holds model seed lists x) e k
+
+-- ---- the header: m is the whole model, n its version, b whether it is one of those that are judged
+
+module _ {o : Option Field} where
+  pub has-none : none ≡ o → false ≡ present o
+  unfolding present
+  has-none e = ap present e
+
+  pub has-some : {f : Field} → some f ≡ o → true ≡ present o
+  unfolding present
+  has-some e = ap present e
+
+module _ (model list : Bytes) {m : Field} (em : m ≡ whole model) {n : ℕ} (en : n ≡ numberOf Model·ir-version (message model m)) {b : Bool} (eb : b ≡ within 4 10 n) where
+  abbrev Answer : Rule
+  Answer = silent (header model list (message model (whole model)))
+
+  answers : {o : Judged (List Bytes)} → header model list (message model m) ≡ o → silent o ≡ Answer
+  answers e = ap silent (sym e) ∙ ap (λ (f : Field). silent (header model list (message model f))) em
+
+  version : {t : Bool} → b ≡ t → not (within 4 10 (numberOf Model·ir-version (message model m))) ≡ not t
+  version k = ap (λ (v : ℕ). not (within 4 10 v)) (sym en) ∙ ap not (sym eb ∙ k)
+
+  pub header-version : b ≡ false → {p : ℕ} → p ≡ placeOf Model·ir-version (message model m) → refused 10 p ≡ Answer
+  unfolding header silent _>>=_
+  header-version k e = ap (λ (q : ℕ). refused 10 q) e ∙ answers (when-broken 10 (placeOf Model·ir-version (message model m)) _ (version k))
+
+  -- g is whether there is a graph, i whether there is an import
+  module _ (k : b ≡ true) {g : Bool} (eg : g ≡ present (firstOf Model·graph (message model m))) where
+    abbrev Each : Judged (List Bytes)
+    Each = each (opsetImport model list) [] (allOf Model·opset-import (message model m))
+
+    abbrev Last : Judged (List Bytes)
+    Last = Each >>= λ imports. refuse 15 at: placeOf Model·functions (message model m) when: present (firstOf Model·functions (message model m)) >> pass imports
+
+    graphed : header model list (message model m)
+        ≡ (refuse 11 at: m .place when: not (present (firstOf Model·graph (message model m)))
+        >> (refuse 12 at: m .place when: isEmpty (allOf Model·opset-import (message model m)) >> Last))
+    unfolding header message
+    graphed = when-kept 10 _ _ (version k)
+
+    pub header-graph : g ≡ false → refused 11 (m .place) ≡ Answer
+    unfolding silent _>>=_
+    header-graph l = answers (graphed ∙ when-broken 11 (m .place) _ (ap not (sym eg ∙ l)))
+
+    module _ (l : g ≡ true) {i : Bool} (ei : i ≡ present (firstOf Model·opset-import (message model m))) where
+      imported : {t : Bool} → i ≡ t → isEmpty (allOf Model·opset-import (message model m)) ≡ not t
+      unfolding firstOf
+      imported e = no-first (allOf Model·opset-import (message model m)) ∙ ap not (sym ei ∙ e)
+
+      importing : header model list (message model m) ≡ (refuse 12 at: m .place when: isEmpty (allOf Model·opset-import (message model m)) >> Last)
+      importing = graphed ∙ when-kept 11 _ _ (ap not (sym eg ∙ l))
+
+      pub header-import : i ≡ false → refused 12 (m .place) ≡ Answer
+      unfolding silent _>>=_
+      header-import e = answers (importing ∙ when-broken 12 (m .place) _ (imported e))
+
+      last : i ≡ true → header model list (message model m) ≡ Last
+      last j = importing ∙ when-kept 12 _ _ (imported j)
+
+      -- r is the ruling on the imports, h whether there are functions
+      module _ (j : i ≡ true) (r : Ruling) (ruled : rulingSays r ≡ silent (each (opsetImport model list) [] (All model))) where
+        judged : rulingSays r ≡ silent Each
+        judged = ruled ∙ ap (λ (f : Field). silent (each (opsetImport model list) [] (allOf Model·opset-import (message model f)))) (sym em)
+
+        pub header-imports-refused : {x : Refusal} → r ≡ ruling.Refused x → rulingSays r ≡ Answer
+        unfolding silent _>>=_
+        header-imports-refused u =
+            ruled ∙ ruled-refused ruled u
+            ∙ answers
+            (last j
+            ∙ ap (λ (o : Judged (List Bytes)). o
+            >>= λ imports. refuse 15 at: placeOf Model·functions (message model m) when: present (firstOf Model·functions (message model m))
+            >> pass imports) (silent-fails Each (ruled-refused judged u)))
+
+        module _ (u : r ≡ ruling.Kept) {h : Bool} (eh : h ≡ present (firstOf Model·functions (message model m))) where
+          whole-header : header model list (message model m)
+              ≡ (refuse 15 at: placeOf Model·functions (message model m) when: present (firstOf Model·functions (message model m))
+              >> pass (silent-passes Each (ruled-kept judged u) .0))
+          unfolding _>>=_
+          whole-header =
+              last j
+              ∙ ap (λ (o : Judged (List Bytes)). o
+              >>= λ imports. refuse 15 at: placeOf Model·functions (message model m) when: present (firstOf Model·functions (message model m))
+              >> pass imports) (silent-passes Each (ruled-kept judged u) .1)
+
+          pub header-functions : h ≡ true → {p : ℕ} → p ≡ placeOf Model·functions (message model m) → refused 15 p ≡ Answer
+          unfolding silent _>>=_
+          header-functions v e = ap (λ (q : ℕ). refused 15 q) e ∙ answers (whole-header ∙ when-broken 15 (placeOf Model·functions (message model m)) _ (sym eh ∙ v))
+
+          pub header-kept : h ≡ false → pass tt ≡ Answer
+          unfolding silent _>>=_
+          header-kept v = answers (whole-header ∙ when-kept 15 (placeOf Model·functions (message model m)) _ (sym eh ∙ v))
+
+-- the domains that a header passes on are those that the model imports
+pub header-imports : (model list : Bytes) (imports : List Bytes) → header model list (message model (whole model)) ≡ pass imports → (x : Bytes)
+    → member x imports ≡ member x (importsIn model)
+unfolding header importsIn
+header-imports model list imports e x =
+    let after12 = passed-seq _ _ imports (passed-seq _ _ imports (passed-seq _ _ imports e .1) .1) .1 in
+    let p = passed-bind _ _ imports after12 in
+    ap (member x) (sym (pass-same (p .0) imports (passed-seq _ _ imports (p .2) .1))) ∙ imports-agree model list (All model) (p .0) (p .1) x

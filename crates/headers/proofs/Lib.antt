@@ -1,0 +1,5 @@
+pub mod Silent
+pub mod EarlierLaws
+pub mod ListedLaws
+pub mod ImportLaws
+pub mod HeaderLaws

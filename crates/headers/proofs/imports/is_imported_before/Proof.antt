@@ -1,0 +1,84 @@
+use Prim.Native.Nat.{_-_}
+use mathlib.Core.Path.{ap, _∙_}
+use lib.ListN.{length}
+use Rattle.varint.specs.Bytes.{member}
+use Rattle.wire.specs.Answers.{contentsOf}
+use Rattle.operators.specs.Operators.{domain}
+use Rattle.schema.specs.Numbers.{Model·opset-import}
+use Rattle.headers.specs.Imports.{importOf, importsBefore}
+use Rattle.headers.proofs.EarlierLaws.{Rereading, reread-done, reread-past, reread-here, reread-next, reread-falls}
+use Rattle.headers.proofs.ImportLaws.{imports-again, same-import}
+use borrow.Author.Needs.{needs}
+use Rattle.headers.proofs.imports.is_imported_before.Statement.{statement}
+use Rattle.headers.proofs.imports.is_imported_before.Tie as tie
+
+abbrev Inv-loop : tie.InvT-loop
+Inv-loop model place d c₀ c = Rereading model Model·opset-import (length model) (importOf model) place (domain d) (member (domain d) (importsBefore model place)) c
+
+abbrev μ-loop : tie.MeasureT-loop
+μ-loop model place d c₀ c = length model - c .at
+
+loop-holds : tie.Need-loop-holds Inv-loop μ-loop
+loop-holds c = rw (c .contents .ensures ∙ ap contentsOf (c .before .whole .ensures)) (imports-again _ _ _)
+
+returns : tie.Need-returns Inv-loop μ-loop
+returns c =
+    let c2 = c .before .before in
+    let loop = c2 .before in
+    reread-done (loop .loop .inv) (c2 .next-of .ensures) (c .enum-told .given .1)
+
+returns-2 : tie.Need-returns-2 Inv-loop μ-loop
+returns-2 c =
+    let c3 = c .before .before .before in
+    let c5 = c3 .before .before in
+    let loop = c5 .before in
+    reread-past (loop .loop .inv) (c5 .next-of .ensures) (c3 .sought .given .1) (c .if1 .taken)
+
+returns-3 : tie.Need-returns-3 Inv-loop μ-loop
+returns-3 c =
+    let c1 = c .before in
+    let c2 = c1 .before in
+    let c3 = c2 .before in
+    let c6 = c3 .before .before .before in
+    let c8 = c6 .before .before in
+    let loop = c8 .before in
+    reread-here (loop .loop .inv) (c8 .next-of .ensures) (c6 .sought .given .1) (c3 .if1 .left)
+    (same-import _ _ _ (c2 .bytes-of .ensures) (c1 .same-domain .ensures)) (c .if2 .taken)
+
+loop-less : tie.Need-loop-less Inv-loop μ-loop
+loop-less c =
+    let c6 = c .before .before .before .before .before .before in
+    let c8 = c6 .before .before in
+    let loop = c8 .before in
+    reread-falls (loop .loop .inv) (c8 .next-of .ensures) (c6 .sought .given .1)
+
+loop-again : tie.Need-loop-again Inv-loop μ-loop
+loop-again c =
+    let c1 = c .before in
+    let c2 = c1 .before in
+    let c3 = c2 .before in
+    let c6 = c3 .before .before .before in
+    let c8 = c6 .before .before in
+    let loop = c8 .before in
+    reread-next (loop .loop .inv) (c8 .next-of .ensures) (c6 .sought .given .1) (c3 .if1 .left)
+    (same-import _ _ _ (c2 .bytes-of .ensures) (c1 .same-domain .ensures)) (c .if2 .left)
+
+pub is-imported-before-spec : {M : Type 1} → statement M
+is-imported-before-spec =
+    tie.close
+    (tie.spec
+    Inv-loop
+    μ-loop
+    (λ c κs. search needs)
+    (λ c κs. search needs)
+    loop-holds
+    (λ c κs. search needs)
+    (λ c. search needs)
+    (λ c. search needs)
+    returns
+    returns-2
+    (λ c κs. search needs)
+    (λ c κs. search needs)
+    returns-3
+    loop-less
+    loop-again)

@@ -1,0 +1,3 @@
+pub mod Earlier
+pub mod Imports
+pub mod Imported

@@ -1,0 +1,16 @@
+// What a model says of itself, and names that stood earlier in a list: found by a listing, or read again where they stand.
+mod earlier;
+mod headers;
+mod imports;
+mod wholes;
+
+pub use earlier::is_listed;
+pub use earlier::list_name;
+pub use headers::header;
+pub use imports::Heading;
+pub use imports::Imports;
+pub use imports::is_imported;
+pub use imports::ruling_of;
+pub use wholes::has;
+pub use wholes::model_outline;
+pub use wholes::whole;
