@@ -18,7 +18,7 @@ use Rattle.varint.specs.Bytes.{Bytes}
 use Rattle.wire.specs.Wire.{field, fields}
 use Rattle.wire.specs.Message.{Message, allOf, firstOf, numberOf, message}
 use Rattle.wire.specs.Answers.{contentsOf, fieldSays, withCursor}
-use Rattle.varint.proofs.Lists.{or-swap, no-first, true-T, T-false, subset, contains-subset, NoneOf, none-contained}
+use Rattle.varint.proofs.Lists.{some-same, or-swap, no-first, true-T, T-false, subset, contains-subset, NoneOf, none-contained}
 use Rattle.wire.proofs.CursorLaws.{answer-read, answer-refused}
 use Rattle.wire.proofs.Reading.{Fits, field-tells}
 use Rattle.wire.proofs.Fields.{fields-done, fields-step, fields-stop}
@@ -190,9 +190,6 @@ module _ {model : Bytes} {mine end start : ℕ} {c : Cursor} (q : Looking model 
 abbrev Absent : Option ℕ → Type 0
 Absent none = Unit {0}
 Absent (some n) = ⊥
-
-some-same : (a b : ℕ) → some a ≡ some b → a ≡ b
-some-same a b e = ap carrierBy e
 
 -- no field has the number 0, so that 0 can say that a type has no carrier
 nonzero : (n : ℕ) (l : List (ℕ × ℕ)) → contains 0 (map (λ c. c .1) l) ≡ false → lookup n l ≡ some 0 → ⊥
