@@ -42,7 +42,7 @@ enum onnx_gate_refusal {
     ONNX_GATE_WRONG_WIRE = 4,           /* the field has another wire type than onnx.proto gives it */
     ONNX_GATE_REPEATED = 5,             /* a field that may stand once stands again, or a second member of a one-of */
     ONNX_GATE_TOO_DEEP = 6,             /* graphs are nested more than 8 deep, the main graph being the first */
-    ONNX_GATE_MODEL_TOO_LARGE = 7,      /* the model has more than 67,108,864 bytes */
+    ONNX_GATE_MODEL_TOO_LARGE = 7,      /* the model has more than 2,147,483,647 bytes */
     ONNX_GATE_LIST_UNSOUND = 8,         /* the operator list is not in its format, or has a domain twice */
     ONNX_GATE_BAD_IR_VERSION = 10,      /* ir_version must be 4 to 10 */
     ONNX_GATE_NO_GRAPH = 11,            /* the model has no graph */

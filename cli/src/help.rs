@@ -60,7 +60,7 @@ Usage: onnx-gate check [OPTIONS] MODEL...
 
 MODEL is a file, - for standard input, or a folder: then every file below it that ends in .onnx or .ONNX, by name.
 Links to files are read, links to folders are told and not followed. What has such a name must be a regular file; under
-another name a pipe will do. At most 67,108,865 bytes of a file are read: a longer model is refused. More than one
+another name a pipe will do. At most 2,147,483,648 bytes of a file are read: a longer model is refused. More than one
 model, or a folder, ends with a line that counts the answers.
 
 Options:

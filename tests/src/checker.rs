@@ -25,7 +25,7 @@ pub struct Refusal {
 }
 
 /// The largest model, in bytes.
-pub const LARGEST_MODEL: usize = 67_108_864;
+pub const LARGEST_MODEL: usize = 2_147_483_647;
 
 pub fn check(model: &[u8], list: &[u8], cells: usize) -> Verdict {
     match judge(model, list, cells) {

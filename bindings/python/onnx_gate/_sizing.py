@@ -2,7 +2,7 @@
 
 from collections.abc import Iterator
 
-LARGEST_MODEL = 67_108_864
+LARGEST_MODEL = 2_147_483_647
 
 # Up to this many bytes a model gets the cells that any model of its size can need, under 10 MB; a larger one is skimmed first.
 SMALL = 1_048_576

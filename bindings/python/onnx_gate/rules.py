@@ -8,7 +8,7 @@ RULES = {
     4: ("wrong-wire", "the field has another wire type than onnx.proto gives it"),
     5: ("repeated", "a field that may stand once stands again, or a second member of a one-of"),
     6: ("too-deep", "graphs are nested more than 8 deep, the main graph being the first"),
-    7: ("model-too-large", "the model has more than 67,108,864 bytes"),
+    7: ("model-too-large", "the model has more than 2,147,483,647 bytes"),
     8: ("list-unsound", "the operator list is not in its format, or has a domain twice"),
     10: ("bad-ir-version", "ir_version must be 4 to 10"),
     11: ("no-graph", "the model has no graph"),

@@ -27,7 +27,7 @@ pub use sizing::{check, Checked, NoMemory, Options, MEMORY};
 use std::fmt;
 
 /// A model longer than this is refused with 7.
-pub const LARGEST_MODEL: usize = 67_108_864;
+pub const LARGEST_MODEL: usize = 2_147_483_647;
 
 /// The two counts of an acceptance.
 #[derive(Clone, Copy, Debug, PartialEq, Eq)]

@@ -20,7 +20,7 @@ pub const RULES: [Rule; 35] = [
     of(4, "wrong-wire", "the field has another wire type than onnx.proto gives it"),
     of(5, "repeated", "a field that may stand once stands again, or a second member of a one-of"),
     of(6, "too-deep", "graphs are nested more than 8 deep, the main graph being the first"),
-    of(7, "model-too-large", "the model has more than 67,108,864 bytes"),
+    of(7, "model-too-large", "the model has more than 2,147,483,647 bytes"),
     of(8, "list-unsound", "the operator list is not in its format, or has a domain twice"),
     of(10, "bad-ir-version", "ir_version must be 4 to 10"),
     of(11, "no-graph", "the model has no graph"),

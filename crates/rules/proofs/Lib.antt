@@ -1,5 +1,6 @@
 pub mod IdentifierLaws
 pub mod Rules
+pub mod Size
 pub mod Matching
 pub mod Visits
 pub mod Defaults

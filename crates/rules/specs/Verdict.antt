@@ -19,9 +19,9 @@ pub record Counts : Type 0 where
 unfoldable pub counts : Walk → Counts
 counts w = record { nodes = w .nodes; names = w .most }
 
--- "model above 67,108,864 bytes"
-abbrev pub LARGEST : ℕ
-LARGEST = 67_108_864
+-- "Raise the size in refusal 7 from 67,108,864 to 2,147,483,647 bytes."
+unfoldable pub LARGEST : ℕ
+LARGEST = 2_147_483_647
 
 -- "visible names already equal the cells". Cells, document 01's term, are what the caller lends: one holds one visible name.
 unfoldable pub fills : (cells visible : ℕ) → Bool
@@ -38,5 +38,5 @@ verdict model list cells = do
 
 -- This file and what it is built on, for whoever computes with it.
 unfoldable pub Verdict·computes : Unit {0}
-unfolding FirstWalk·computes Header·computes counts fills verdict
+unfolding FirstWalk·computes Header·computes counts LARGEST fills verdict
 Verdict·computes = tt
