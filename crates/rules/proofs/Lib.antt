@@ -13,5 +13,7 @@ pub mod Depth
 pub mod Cells
 pub mod Counting
 pub mod Proper
+pub mod Accepting
+pub mod Limit
 pub mod Shared
 pub mod Demands

@@ -1,5 +1,5 @@
 -- All that is known of the limit of a model's size where it is not computed with: no proof elsewhere has the number.
-use Prim.Native.Nat.{ℕ, _^_, _≤_, _<_}
+use Prim.Native.Nat.{_^_, _<_}
 use native.Mathlib.Omega.{arith}
 use mathlib.Core.Path.{_≡_}
 use mathlib.Core.Bool.{false}
@@ -12,6 +12,10 @@ use Rattle.rules.specs.Verdict.{LARGEST}
 largest-short : LARGEST < 2 ^ 31
 unfolding LARGEST
 largest-short = lit< tt
+
+pub largest-some : 0 < LARGEST
+unfolding LARGEST
+largest-some = lit< tt
 
 pub size-short : (model : Bytes) → ltb LARGEST (length model) ≡ false → length model < 2 ^ 31
 size-short model e = omega (arith, largest-short, ltb-false LARGEST (length model) e)

@@ -1,11 +1,11 @@
 -- What is claimed of the definitions, as types. Each is proved in proofs/ under the name of its type with a small first letter.
-use Prim.Native.Nat.{ℕ, _+_, _-_, _≤_, _<_, min}
+use Prim.Native.Nat.{ℕ, _+_, _-_, _^_, _≤_, _<_, min}
 use mathlib.Core.Path.{_≡_}
 use mathlib.Core.Logic.{_↔_, _⊎_}
 use mathlib.Core.Bool.{Bool, true, false}
 use mathlib.Core.List.{List, [], _∷_, _++_, List·Memᴰ}
 use mathlib.Core.Option.{none, some}
-use lib.ListN.{length}
+use lib.ListN.{length, replicate}
 use lib.Dec.{T}
 use Rattle.varint.specs.Outcome.{pass, fail, refused}
 use Rattle.varint.specs.declared.Refusal.{Refusal}
@@ -57,6 +57,26 @@ unfoldable pub RefusedProperly : Type 0
 RefusedProperly =
     (model list : Bytes) (cells : ℕ) (r : Refusal) → verdict model list cells ≡ fail r →
     T (contains (r .number) refusals) × ((r .place ≡ 0) ⊎ (r .place < length model))
+
+-- "visible names already equal the cells": with more cells an answer stays what it is, unless it is a 40. So whoever lends more after each 40
+-- ends with the answer of every greater number of them.
+unfoldable pub EnoughCells : Type 0
+EnoughCells =
+    (model list : Bytes) (cells more : ℕ) → cells ≤ more →
+    (verdict model list cells ≡ verdict model list more) ⊎ ((p : ℕ) × (verdict model list cells ≡ refused 40 p))
+
+-- "Places and lengths stay below 2^31."
+unfoldable pub PlacesShort : Type 0
+PlacesShort =
+    (model list : Bytes) (cells : ℕ) →
+    ((r : Refusal) → verdict model list cells ≡ fail r → r .place < 2 ^ 31) ×
+    ((c : Counts) → verdict model list cells ≡ pass c → length model < 2 ^ 31)
+
+-- "67,108,864 / 67,108,865 bytes, all `00`" are "3 at 0 / 7 at 0", at the limit as it now is: too many bytes for a sample to compute with.
+unfoldable pub ZerosAtLimit : Type 0
+ZerosAtLimit =
+    (list : Bytes) (cells : ℕ) → sound list ≡ true →
+    (verdict (replicate LARGEST 0) list cells ≡ refused 3 0) × (verdict (replicate (LARGEST + 1) 0) list cells ≡ refused 7 0)
 
 -- ---- demand 3
 

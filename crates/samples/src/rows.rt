@@ -1,4 +1,4 @@
-// Document 01, "Sample models under L": the rows that are not marked P and fit in a frame. The row of 67,108,864 bytes does not.
+// Document 01, "Sample models under L": the rows that are not marked P and fit in a frame. The rows at the limit of size do not.
 use crate::shown::row;
 
 // "M0 with import 7 or 21 / 6 or 22 | accepted / 14 at 2"
