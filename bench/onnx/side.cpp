@@ -9,7 +9,8 @@
 
 extern "C" {
 
-// The parsed model, or null where the parse fails. To be freed with onnx_side_free.
+// The parsed model, or null where the parse fails. To be freed with onnx_side_free. No workload is longer than an int says:
+// that is the most that Protocol Buffers parses, and the gate accepts.
 void *onnx_side_parse(const unsigned char *bytes, size_t length)
 {
     auto *model = new onnx::ModelProto;

@@ -1,12 +1,14 @@
 //! The proved check beside an ordinary Rust checker, the Protocol Buffers parse and onnx::checker: bench/run.
 //!
-//! `check_bench FOLDER LIBRARY full|quick [WORD]` prints the tables and writes FOLDER/sweep.csv; with a word it prints those
-//! of the workloads whose names contain it, and no more;
+//! `check_bench FOLDER LIBRARY COMMAND full|quick [WORD]` prints the tables and writes FOLDER/sweep.csv; with a word it
+//! prints those of the workloads whose names contain it, and no more;
 //! `check_bench crafted` prints what names made for a seed cost;
 //! `check_bench memory SIDE MODEL LIST CELLS EXTRA LIBRARY` is what it starts to measure the memory of one side.
 
 mod clock;
+mod command;
 mod crafted;
+mod files;
 mod given;
 mod lists;
 mod markdown;
@@ -16,6 +18,7 @@ mod report;
 mod searches;
 mod sweep;
 mod timing;
+mod watch;
 mod workloads;
 
 use std::collections::hash_map::RandomState;
@@ -29,6 +32,7 @@ use memory::Lent;
 use onnx::Onnx;
 use report::Run;
 use timing::Plan;
+use workloads::LARGEST;
 
 const FULL: Plan = Plan { runs: 21, budget: Duration::from_secs(4) };
 const QUICK: Plan = Plan { runs: 5, budget: Duration::from_secs(1) };
@@ -44,11 +48,11 @@ fn main() -> ExitCode {
             println!("{}", crafted::rows(random()));
             Ok(())
         }
-        [folder, library, "full"] => all(folder, library, FULL, ""),
-        [folder, library, "quick"] => all(folder, library, QUICK, ""),
-        [folder, library, "full", word] => all(folder, library, FULL, word),
-        [folder, library, "quick", word] => all(folder, library, QUICK, word),
-        _ => Err("usage: check_bench FOLDER LIBRARY full|quick [WORD]".to_string()),
+        [folder, library, command, "full"] => all([folder, library, command], FULL, ""),
+        [folder, library, command, "quick"] => all([folder, library, command], QUICK, ""),
+        [folder, library, command, "full", word] => all([folder, library, command], FULL, word),
+        [folder, library, command, "quick", word] => all([folder, library, command], QUICK, word),
+        _ => Err("usage: check_bench FOLDER LIBRARY COMMAND full|quick [WORD]".to_string()),
     };
     match done {
         Ok(()) => ExitCode::SUCCESS,
@@ -64,14 +68,18 @@ fn random() -> u64 {
     RandomState::new().build_hasher().finish()
 }
 
-fn all(folder: &str, library: &str, plan: Plan, word: &str) -> Result<(), String> {
+fn all([folder, library, command]: [&str; 3], plan: Plan, word: &str) -> Result<(), String> {
     let onnx = Onnx::load(library);
     if let Err(told) = &onnx {
         println!("Without Protocol Buffers and onnx::checker (apt-get install libonnx-dev libprotobuf-dev): {told}\n");
     }
-    let run = Run { folder: Path::new(folder), onnx: onnx.as_ref().ok(), library, plan, seed: random() };
+    let (folder, command) = (Path::new(folder), Some(Path::new(command)).filter(|command| command.is_file()));
+    let run = Run { folder, onnx: onnx.as_ref().ok(), library, command, plan, seed: random() };
     println!("Seed of the index, drawn for this run: {:#018x}.\n", run.seed);
     println!("{}", report::workloads(&run, word)?);
+    if LARGEST.name.contains(word) {
+        println!("The command on the workload of 1.9 GB, output to /dev/null:\n\n{}", command::rows(&run)?);
+    }
     if !word.is_empty() {
         return Ok(());
     }

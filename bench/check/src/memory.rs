@@ -73,9 +73,12 @@ fn work(side: &str, model: &[u8], list: &[u8], room: (usize, usize), onnx: Optio
     Ok(())
 }
 
-/// A line of /proc/self/status, in kB.
 fn status(line: &str) -> Result<u64, String> {
     let all = fs::read_to_string("/proc/self/status").map_err(|error| error.to_string())?;
-    let found = all.lines().find_map(|l| l.strip_prefix(line)).and_then(|rest| rest.split_whitespace().next());
-    found.and_then(|number| number.parse().ok()).ok_or(format!("no {line} in /proc/self/status"))
+    kilobytes(&all, line).ok_or(format!("no {line} in /proc/self/status"))
+}
+
+/// A line of a process's status, in kB.
+pub fn kilobytes(status: &str, line: &str) -> Option<u64> {
+    status.lines().find_map(|l| l.strip_prefix(line))?.split_whitespace().next()?.parse().ok()
 }

@@ -1,9 +1,9 @@
 //! The tables of the workloads.
 
-use std::fs;
 use std::path::Path;
 use std::time::Duration;
 
+use crate::files::Scratch;
 use crate::given::Given;
 use crate::markdown::{count, head, megabytes, ratio, table, time, MISSING};
 use crate::memory::{self, Lent};
@@ -11,18 +11,20 @@ use crate::onnx::Onnx;
 use crate::timing::{alone, in_turn, measure, Measured, Plain, Plan, Times};
 use crate::workloads::{Workload, WORKLOADS};
 
-/// What a run needs: where files go, the C++ side if it is there and its path, how long to measure, and the seed.
+/// What a run needs: where files go, the C++ side if it is there and its path, the command if it is there, how long to
+/// measure, and the seed.
 pub struct Run<'a> {
     pub folder: &'a Path,
     pub onnx: Option<&'a Onnx>,
     pub library: &'a str,
+    pub command: Option<&'a Path>,
     pub plan: Plan,
     pub seed: u64,
 }
 
 impl Run<'_> {
     /// A workload at a part of its size: 4 is a quarter.
-    fn given(&self, workload: &Workload, part: usize) -> Given {
+    pub fn given(&self, workload: &Workload, part: usize) -> Given {
         let model = (workload.make)(workload.size.unwrap_or(part) / part, self.seed);
         let other = self.seed.rotate_left(17) ^ 0x6A09_E667_F3BC_C908;
         Given::new(model, workload.operators(), if workload.other_seed { other } else { self.seed })
@@ -49,7 +51,7 @@ const GROWTH_HEAD: [&str; 8] =
 const MEMORY_HEAD: [&str; 7] =
     ["workload", "model", "indexed check", "plain check", "Rust checker", "protobuf parse", "parse + onnx::checker"];
 
-const NONE: &str = "–";
+pub const NONE: &str = "–";
 
 /// The indexed check at a quarter, at half and at the whole of the size, and the time for clearing the cells of the whole.
 struct Growth {
@@ -91,7 +93,7 @@ pub fn workloads(run: &Run, word: &str) -> Result<String, String> {
 }
 
 /// For what is beside the table.
-fn short(plan: Plan) -> Plan {
+pub fn short(plan: Plan) -> Plan {
     Plan { runs: plan.runs.min(9), budget: plan.budget / 4 }
 }
 
@@ -101,7 +103,7 @@ fn sizes(quarter: &Given, half: &Given, whole: &Given, plan: Plan) -> [Duration;
     in_turn([quarter.indexed(), half.indexed(), whole.indexed()], plan).map(|times| times.best())
 }
 
-fn both(times: &Times) -> String {
+pub fn both(times: &Times) -> String {
     format!("{} ({})", time(times.best()), time(times.median()))
 }
 
@@ -141,10 +143,9 @@ fn growth_row(name: &str, given: &Given, growth: &Growth, whole: Duration) -> Ve
 }
 
 fn memory_row(run: &Run, name: &str, given: &Given, m: &Measured) -> Result<Vec<String>, String> {
-    let (file, list) = (run.folder.join("workload.onnx"), run.folder.join("workload.lst"));
-    fs::write(&file, &given.model).map_err(|error| format!("{}: {error}", file.display()))?;
-    fs::write(&list, &given.list).map_err(|error| format!("{}: {error}", list.display()))?;
-    let words = (list.display().to_string(), given.cells.to_string(), given.extra.to_string());
+    let model = Scratch::new(run.folder.join("workload.onnx"), &given.model)?;
+    let list = Scratch::new(run.folder.join("workload.lst"), &given.list)?;
+    let words = (list.word(), given.cells.to_string(), given.extra.to_string());
     let lent = Lent { list: &words.0, cells: &words.1, extra: &words.2 };
     let mut row = vec![name.to_string(), megabytes(given.model.len() as u64 / 1024)];
     for side in memory::SIDES {
@@ -152,11 +153,8 @@ fn memory_row(run: &Run, name: &str, given: &Given, m: &Measured) -> Result<Vec<
         row.push(match (cpp && run.onnx.is_none(), side, &m.plain) {
             (true, _, _) => MISSING.to_string(),
             (_, "plain", Plain::Quarter(_)) => "not run".to_string(),
-            _ => megabytes(memory::measure(side, &file, &lent, run.library)?),
+            _ => megabytes(memory::measure(side, &model.path, &lent, run.library)?),
         });
-    }
-    for used in [file, list] {
-        fs::remove_file(&used).map_err(|error| format!("{}: {error}", used.display()))?;
     }
     Ok(row)
 }

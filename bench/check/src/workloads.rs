@@ -39,7 +39,10 @@ impl Workload {
     }
 }
 
-pub const WORKLOADS: [Workload; 17] = [
+/// The one on which the command is measured too.
+pub const LARGEST: Workload = of("one initializer of 1.9 GB raw data", 1_900_000_000, |size, _| heavy(size, 0));
+
+pub const WORKLOADS: [Workload; 18] = [
     Workload { size: None, ..of("small model, 6 nodes", 0, |_, _| small()) },
     of("chain of 20,000 nodes, unnamed", CHAIN, |size, _| chain(size, false)),
     of("chain of 20,000 nodes, named", CHAIN, |size, _| chain(size, true)),
@@ -50,7 +53,8 @@ pub const WORKLOADS: [Workload; 17] = [
     of("nested to depth 8, 20 towers of 254 graphs", 20, |size, _| nested(size)),
     of("20,000 nodes with a body that binds a name", CHAIN, searches::bodies).custom(),
     of("20,000 attributes in one node", CHAIN, searches::attributes).custom(),
-    of("one initializer of 50 MB raw data", 50_000_000, |size, _| heavy(size as u64)),
+    of("one initializer of 50 MB raw data", 50_000_000, |size, _| heavy(size, DATA)),
+    LARGEST,
     of("hostile: 4,000,000 unknown fields", 4_000_000, |size, _| unknown(size)),
     of("hostile: 10,000 nodes, 10,000 unknown fields among imports", 10_000, searches::imports).custom(),
     of("hostile: one name of 10 MB", 10_000_000, |size, _| long_name(size)),
@@ -63,6 +67,8 @@ pub const FLOAT: u64 = 1;
 const INT: u64 = 2;
 pub const GRAPH: u64 = 5;
 const BOOL: u64 = 9;
+/// Each byte of weights.
+const DATA: u8 = 0x3d;
 
 fn model(graph: Tree) -> Vec<u8> {
     model_with(&[], graph)
@@ -70,11 +76,15 @@ fn model(graph: Tree) -> Vec<u8> {
 
 /// A model that imports the default domain and these.
 pub fn model_with(domains: &[&str], graph: Tree) -> Vec<u8> {
+    importing(domains).tree(7, graph).encode()
+}
+
+fn importing(domains: &[&str]) -> Tree {
     let mut model = Tree::new(Message::Model).number(1, 8);
     for domain in std::iter::once(&"").chain(domains) {
         model.push(8, Value::Tree(Tree::new(Message::OperatorSetId).text(1, domain).number(2, 13)));
     }
-    model.tree(7, graph).encode()
+    model
 }
 
 /// An input or output with its element type and its sizes.
@@ -102,7 +112,7 @@ pub fn weights(name: &str, sizes: &[u64]) -> Tree {
         tensor = tensor.number(1, size);
     }
     let bytes = 4 * sizes.iter().product::<u64>() as usize;
-    tensor.number(2, FLOAT).text(8, name).text(9, vec![0x3d; bytes])
+    tensor.number(2, FLOAT).text(8, name).text(9, vec![DATA; bytes])
 }
 
 pub fn int_attribute(name: &str, value: u64) -> Tree {
@@ -194,13 +204,25 @@ fn nested(towers: usize) -> Vec<u8> {
     model(inputs.tree(12, value_info(&last, FLOAT, &[1])))
 }
 
-fn heavy(bytes: u64) -> Vec<u8> {
-    let graph = Tree::new(Message::Graph)
-        .text(2, "heavy")
-        .tree(1, node("Add", &["x", "weight"], "y"))
-        .tree(5, weights("weight", &[bytes / 4]))
-        .tree(11, value_info("x", FLOAT, &[bytes / 4]));
-    model(graph.tree(12, value_info("y", FLOAT, &[bytes / 4])))
+/// One tensor of raw data, each byte of it `fill`. All else is encoded without the data, with lengths that count it, and
+/// put around it: zeros are then memory that no one has written, which takes none.
+fn heavy(bytes: usize, fill: u8) -> Vec<u8> {
+    let counting = |number, value| Item { stretch: bytes as u64, ..Item::new(number, value) };
+    let floats = bytes as u64 / 4;
+    let input = Tree::new(Message::Graph).tree(11, value_info("x", FLOAT, &[floats]));
+    let tail = input.tree(12, value_info("y", FLOAT, &[floats])).encode();
+    let mut tensor = Tree::new(Message::Tensor).number(1, floats).number(2, FLOAT).text(8, "weight");
+    tensor.items.push(counting(9, Value::Bytes(Vec::new())));
+    let mut graph = Tree::new(Message::Graph).text(2, "heavy").tree(1, node("Add", &["x", "weight"], "y"));
+    graph.items.extend([counting(5, Value::Tree(tensor)), Item::raw(tail.clone())]);
+    let mut model = importing(&[]);
+    model.items.push(counting(7, Value::Tree(graph)));
+    let around = model.encode();
+    let data = around.len() - tail.len();
+    let mut whole = vec![fill; around.len() + bytes];
+    whole[..data].copy_from_slice(&around[..data]);
+    whole[data + bytes..].copy_from_slice(&tail);
+    whole
 }
 
 /// Fields that nothing names: numbers, ten bytes each and ever new.
