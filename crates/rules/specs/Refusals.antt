@@ -4,7 +4,7 @@ use mathlib.Core.List.{List, [], _∷_}
 
 abbrev pub refusals : List ℕ
 refusals =
-    7  -- model above 2,147,483,647 bytes
+    7  -- model above `LARGEST` bytes
     ∷ 8  -- operator list unsound
     ∷ 1  -- varint, value or length runs past its message
     ∷ 2  -- tenth varint byte above 1
