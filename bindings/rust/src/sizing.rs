@@ -4,9 +4,9 @@ use crate::{check_indexed, check_with, operators, Accepted, Refusal, LARGEST_MOD
 use std::fmt;
 use std::hash::{BuildHasher, Hasher, RandomState};
 
-/// The most bytes that cells and extra cells take together, where nobody says otherwise. It is a bound and not a request:
-/// more cells are asked for as the answer 40 calls for them. No model of `LARGEST_MODEL` bytes or less needs more than
-/// 19.3 GB, so that none is refused for it.
+/// The most bytes that cells and extra cells take together, where nobody says otherwise. It is a bound and not a
+/// request: more cells are asked for as the answer 40 calls for them. No model of `LARGEST_MODEL` bytes or less needs
+/// more than 19.3 GB, so that none is refused for it.
 pub const MEMORY: usize = 18 << 30;
 
 const CELL: usize = size_of::<u32>();
@@ -86,7 +86,7 @@ impl Options {
         loop {
             let (mut own, mut extra) = (zeroed(cells)?, zeroed(self.extra(cells, need.lists(cells)))?);
             let answer = check_indexed(model, operators, &mut own, &mut extra, seed);
-            // `enoughCells` (crates/rules/specs/Demands.antt): with more cells an answer stays what it is, unless it is a 40
+            // `enoughCells` in crates/rules/specs/Demands.antt: with more cells an answer stays, unless it is a 40
             match next(cells, need.names, most) {
                 Some(more) if matches!(answer, Err(refusal) if refusal.number == 40) => cells = more,
                 _ => return Ok(Checked { answer, cells }),
@@ -133,9 +133,9 @@ fn need(model: &[u8], operators: &[u8]) -> Need {
     Need { names: found.names.min(names), imports, ..found }
 }
 
-/// Whether the model is refused before a name is kept, as the library says: under a list that allows nothing, and with no
-/// cells, it answers in linear time, at the latest at the first import. What it refuses before that, it refuses under every
-/// sound list.
+/// Whether the model is refused before a name is kept, as the library says: under a list that allows nothing, and with
+/// no cells, it answers in linear time, at the latest at the first import. What it refuses before that, it refuses under
+/// every sound list.
 fn ends_before_lists(model: &[u8], operators: &[u8]) -> bool {
     let early = |refusal: Refusal| refusal.number < IMPORTED_TWICE;
     !operators::is_sound(operators) || check_with(model, &NOTHING, &mut []).is_err_and(early)

@@ -12,9 +12,11 @@ fn outputs(count: usize) -> Vec<u8> {
     [&b"\x08\x08\x42\x02\x10\x0D"[..], &part(7, &[b"\x12\x01g", &node[..]].concat())].concat()
 }
 
+/// A field whose length takes five bytes, whatever it is.
 fn part(number: u8, contents: &[u8]) -> Vec<u8> {
-    let digit = |i| (contents.len() >> (7 * i)) as u8 & 0x7F;
-    [&[number << 3 | 2, digit(0) | 0x80, digit(1) | 0x80, digit(2) | 0x80, digit(3) | 0x80, digit(4)], contents].concat()
+    let digit = |i: usize| (contents.len() >> (7 * i)) as u8 & 0x7F | if i < 4 { 0x80 } else { 0 };
+    let length: [u8; 5] = std::array::from_fn(digit);
+    [&[number << 3 | 2], &length[..], contents].concat()
 }
 
 fn list() -> Vec<u8> {
