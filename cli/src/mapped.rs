@@ -4,6 +4,7 @@
 //! grants a read lease only while nobody has the file open for writing, and lets whoever would then write to it or cut
 //! it wait (lease-break-time, 45 seconds) and sends a signal. Its handler puts a copy in the place of the pages and
 //! gives the lease back. Where that cannot be done in time the process ends, since no answer may go by other bytes.
+//! What another machine writes breaks no lease: only files of this one are mapped.
 use crate::WRONG;
 use std::fs::File;
 use std::ops::Deref;
@@ -26,11 +27,15 @@ const SIGBUS: i32 = 7;
 const SIGIO: i32 = 29;
 const SIG_UNBLOCK: i32 = 1;
 
+/// The file systems of this machine: ext2 to ext4, XFS, Btrfs, F2FS, ZFS, tmpfs and overlays.
+const LOCAL: [i64; 7] = [0xEF53, 0x5846_5342, 0x9123_683E, 0xF2F5_2010, 0x2FC1_2FC1, 0x0102_1994, 0x794C_7630];
+
 extern "C" {
     fn mmap(at: *mut u8, length: usize, access: i32, flags: i32, descriptor: i32, offset: i64) -> *mut u8;
     fn mremap(at: *mut u8, length: usize, new_length: usize, flags: i32, ...) -> *mut u8;
     fn munmap(at: *mut u8, length: usize) -> i32;
     fn fcntl(descriptor: i32, command: i32, ...) -> i32;
+    fn fstatfs(descriptor: i32, about: *mut [i64; 15]) -> i32;
     fn signal(number: i32, handler: extern "C" fn(i32)) -> usize;
     fn sigprocmask(how: i32, signals: *const [u64; 16], before: *mut [u64; 16]) -> i32;
     fn write(descriptor: i32, bytes: *const u8, length: usize) -> isize;
@@ -46,34 +51,30 @@ pub struct Mapped {
     at: *mut u8,
     length: usize,
     /// Closing it gives the lease back.
-    _leased: Option<File>,
+    _lease: Option<File>,
 }
 
 impl Mapped {
-    /// The whole file, whose bytes are from now on the same until this is dropped; the file as it was where it cannot be
+    /// The whole file, whose bytes are from now on the same until this is dropped; the file itself where it cannot be
     /// leased: it is another user's, somebody writes to it, or its file system has no leases.
     pub fn leased(file: File) -> Result<Mapped, File> {
-        let descriptor = file.as_raw_fd();
-        // SAFETY: the call takes a descriptor that is open, and numbers.
-        if !ADDRESS.load(SeqCst).is_null() || !listen() || unsafe { fcntl(descriptor, F_SETLEASE, F_RDLCK) } != 0 {
+        if !ADDRESS.load(SeqCst).is_null() || !is_local(&file) || !listen() || !lease(&file, F_RDLCK) {
             return Err(file);
         }
         // asked for under the lease
         let length = file.metadata().map_or(0, |about| about.len());
-        let Some(mut mapped) = Mapped::unread(&file, length as usize) else {
-            return Err(given_back(file));
-        };
-        LENGTH.store(mapped.length, SeqCst);
-        DESCRIPTOR.store(descriptor, SeqCst);
-        ADDRESS.store(mapped.at, SeqCst);
-        // a signal that came before there was an address did nothing
-        // SAFETY: as above.
-        if unsafe { fcntl(descriptor, F_GETLEASE) } != F_RDLCK {
-            drop(mapped);
-            return Err(given_back(file));
+        if let Some(mut mapped) = Mapped::unread(&file, length as usize) {
+            LENGTH.store(mapped.length, SeqCst);
+            DESCRIPTOR.store(file.as_raw_fd(), SeqCst);
+            ADDRESS.store(mapped.at, SeqCst);
+            // a signal that came before there was an address did nothing
+            if is_leased(&file) {
+                mapped._lease = Some(file);
+                return Ok(mapped);
+            }
         }
-        mapped._leased = Some(file);
-        Ok(mapped)
+        lease(&file, F_UNLCK);
+        Err(file)
     }
 
     /// The first `length` bytes of a file with no lease, for whoever asks for their number alone.
@@ -81,7 +82,7 @@ impl Mapped {
         // SAFETY: a new mapping changes no memory that is in use.
         let at = unsafe { mmap(null_mut(), length, PROT_READ, MAP_PRIVATE, file.as_raw_fd(), 0) };
         // the address of a failure is -1
-        (at as isize != -1).then_some(Mapped { at, length, _leased: None })
+        (at as isize != -1).then_some(Mapped { at, length, _lease: None })
     }
 }
 
@@ -89,8 +90,8 @@ impl Deref for Mapped {
     type Target = [u8];
 
     fn deref(&self) -> &[u8] {
-        // SAFETY: so many bytes are mapped at this address for as long as `self` lives, and the lease and its handler see
-        // to it that they stay. Bytes without a lease are not looked at.
+        // SAFETY: so many bytes are mapped at this address for as long as `self` lives, and the lease and its handler
+        // see to it that they stay. Bytes without a lease are not looked at.
         unsafe { std::slice::from_raw_parts(self.at, self.length) }
     }
 }
@@ -103,10 +104,22 @@ impl Drop for Mapped {
     }
 }
 
-fn given_back(file: File) -> File {
+/// Takes a lease or gives it back: whether that was done.
+fn lease(file: &File, kind: i32) -> bool {
     // SAFETY: the call takes a descriptor that is open, and numbers.
-    unsafe { fcntl(file.as_raw_fd(), F_SETLEASE, F_UNLCK) };
-    file
+    unsafe { fcntl(file.as_raw_fd(), F_SETLEASE, kind) == 0 }
+}
+
+/// Whether the lease is there and nobody waits for its end.
+fn is_leased(file: &File) -> bool {
+    // SAFETY: as above.
+    unsafe { fcntl(file.as_raw_fd(), F_GETLEASE) == F_RDLCK }
+}
+
+fn is_local(file: &File) -> bool {
+    let mut about = [0; 15];
+    // SAFETY: the call writes a structure of this size, which begins with the kind of the file system.
+    unsafe { fstatfs(file.as_raw_fd(), &mut about) == 0 && LOCAL.contains(&about[0]) }
 }
 
 /// Whether the two signals come to their handlers. Who started this process may have kept one from coming.
@@ -128,8 +141,8 @@ extern "C" fn give_way(_: i32) {
         return;
     }
     let (length, descriptor) = (LENGTH.load(SeqCst), DESCRIPTOR.load(SeqCst));
-    // SAFETY: `at` is a mapping of `length` bytes, which is replaced in one step by one with the same bytes. All that is
-    // called here is a system call.
+    // SAFETY: `at` is a mapping of `length` bytes, which is replaced in one step by one with the same bytes. The copying
+    // and the system calls are such as a handler may do.
     unsafe {
         let copy = mmap(null_mut(), length, PROT_READ | PROT_WRITE, MAP_PRIVATE | MAP_ANONYMOUS, -1, 0);
         if copy as isize == -1 {

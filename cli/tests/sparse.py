@@ -1,6 +1,6 @@
 """Writes models of up to 2 GiB that are mostly holes, into a folder: sparse.py EXAMPLES FOLDER SIZE NAME...
 
-A name is one of MODELS below; the file has nearly SIZE bytes. For a refused one a line says its name, its place and its path.
+A name is one of MODELS below; the file has nearly SIZE bytes. For each that is refused a line says the answer and the path.
 """
 import sys
 from pathlib import Path
@@ -32,16 +32,20 @@ def place(parts, of):
     return len(head) + HOLE + tail.rindex(of)
 
 
-READER = node("Add", ["w", "late"], ["y"], name="sum")
-LATE = weights(graph_input("x"), READER)
-# the length of a doc_string at the very end says 2 GiB
-PAST = weights(imports=imported() + long(6, 2**31 - 8) + bytes(8))
-# under two names, so that the initializers are many and the second one is far away
+def cut(length):
+    """The last field says that it has this length, and 8 bytes are left."""
+    return weights(imports=imported() + long(6, length) + bytes(8)), long(6, length)
+
+
+LATE = weights(graph_input("x"), node("Add", ["w", "late"], ["y"], name="sum"))
+PAST, PAST_LENGTH = cut(2**31 - 8)
+WRAPS, WRAPS_LENGTH = cut(2**32 + 8)
 AGAIN = weights(part(5, number(2, FLOAT) + part(8, "w")))
 MODELS = {
     "accepted": (weights(node("Relu", ["w"], ["y"])), None),
     "late": (LATE, (30, place(LATE, part(1, "late")), 'graph > node[0] "sum" > input[1]')),
-    "past": (PAST, (1, place(PAST, long(6, 2**31 - 8)), "doc_string")),
+    "past": (PAST, (1, place(PAST, PAST_LENGTH), "doc_string")),
+    "wraps": (WRAPS, (1, place(WRAPS, WRAPS_LENGTH), "doc_string")),
     "again": (AGAIN, (23, place(AGAIN, part(8, "w")), 'graph > initializer[1] "w" > name')),
 }
 

@@ -69,6 +69,7 @@ fn a_file_that_is_written_to() {
     assert!(sample.leased());
     fs::write(&sample.0, b"").unwrap();
     assert!(!sample.leased(), "no bytes, no pages");
+    assert!(Mapped::leased(File::open("/proc/self/status").unwrap()).is_err(), "what the system makes up");
 }
 
 /// Who writes need not wait for the answer, and the bytes stay what they were, those that were cut off among them.
