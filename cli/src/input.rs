@@ -10,7 +10,7 @@ use std::os::unix::fs::OpenOptionsExt;
 /// One byte more than the largest model: from it on the library says 7, whatever follows.
 pub const MOST: u64 = onnx_gate::LARGEST_MODEL as u64 + 1;
 
-/// A longer operator list is not read. It could have 6 million domains.
+/// A longer operator list is not read: one of this length has millions of domains. Its own format ends at 4 GiB.
 const LONGEST_LIST: u64 = 64 << 20;
 
 /// Up to this size a file is sooner read than mapped.
@@ -63,7 +63,8 @@ fn model(name: &OsStr, copied: u64) -> Result<Model, String> {
             Err(back) => file = back,
         }
     }
-    start_of(file, size, MOST).map(Model::Copied)
+    let room = if size < MOST { size } else { 0 };
+    start_of(file, room, MOST).map(Model::Copied)
 }
 
 /// The bytes of an operator list. One that is cut would be judged for what it is not, so a longer one is not read.
@@ -111,11 +112,11 @@ fn regular(about: &Metadata) -> Result<(), String> {
     }
 }
 
-/// At most `most` bytes. A file's are given room at once, and one byte more, so that the reader need not grow it to see
-/// the end; those of a stream as they come.
-fn start_of(source: impl Read, size: u64, most: u64) -> Result<Vec<u8>, String> {
+/// At most `most` bytes. `room` of them are given memory at once, and one byte more, so that the reader need not grow it
+/// to see the end; others as they come.
+fn start_of(source: impl Read, room: u64, most: u64) -> Result<Vec<u8>, String> {
     let mut bytes = Vec::new();
-    bytes.try_reserve_exact(size.min(most) as usize + 1).map_err(|why| plain(why.into()))?;
+    bytes.try_reserve_exact(room.min(most) as usize + 1).map_err(|why| plain(why.into()))?;
     source.take(most).read_to_end(&mut bytes).map_err(plain)?;
     Ok(bytes)
 }

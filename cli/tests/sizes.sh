@@ -46,8 +46,12 @@ too_large() {
     rm ./*.onnx
 }
 
-# 1.9 GB of weights: pages that nobody reads are not in memory.
+# 1.9 GB of weights, and as many as a model may have: pages that nobody reads are not in memory.
 one_initializer() {
+    sparse 2147483647 accepted
+    expect 0 'accepted.onnx: accepted nodes 1 names 2' '' "${small[@]}" "$gate" check accepted.onnx
+    sparse 2147483648 accepted
+    expect 1 'accepted.onnx: refused 7 at 0*' '*' "${small[@]}" "$gate" check accepted.onnx
     sparse 1900000000 accepted
     expect 0 'accepted.onnx: accepted nodes 1 names 2' '' "${small[@]}" "$gate" check accepted.onnx
     expect 0 '*"accepted":true,"nodes":1,"names":2,*' '' "${small[@]}" "$gate" check --json accepted.onnx
@@ -74,7 +78,8 @@ late_faults() {
 in_a_folder() {
     mkdir models && cp "$good" models/a.onnx
     (cd models && sparse 1900000000 accepted late >/dev/null)
-    expect 1 "models/late.onnx: refused 30 at *"$'\n''2 accepted, 1 refused, 0 not judged' '' "${small[@]}" "$gate" check -q models
+    expect 1 "models/late.onnx: refused 30 at *"$'\n''2 accepted, 1 refused, 0 not judged' '' \
+        "${small[@]}" "$gate" check -q models
     same "JSON of a folder with large models" "$(run "$gate" check --json models | grep -c '"accepted":\(true\|false\)')" 3
     rm -r models
 }
@@ -115,7 +120,8 @@ largest_numbers() {
     try 2 '' '*"2147483648" is not a number from 0 to 2147483647' check --cells 2147483648 "$good"
     truncate -s 67108864 longest.lst && truncate -s 67108865 longer.lst
     try 1 '*: refused 8 at 0*' '*longest.lst is not a sound operator list*' check --operators longest.lst "$good"
-    try 2 '' 'onnx-gate: longer.lst: has more than 67108864 bytes, too many for an operator list' check --operators longer.lst "$good"
+    try 2 '' 'onnx-gate: longer.lst: has more than 67108864 bytes, too many for an operator list' \
+        check --operators longer.lst "$good"
     try 2 '' 'onnx-gate: longer.lst: has more than *' operators show longer.lst
     rm ./*.lst
 }
