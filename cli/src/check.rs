@@ -1,9 +1,9 @@
 //! `onnx-gate check`.
 use crate::args::Check;
 use crate::folders::{self, Found};
-use crate::judge::Judge;
+use crate::judge::{Judge, Judged};
 use crate::output::{self, Output};
-use crate::{complain, text, WRONG};
+use crate::{complain, input, text, WRONG};
 use std::io::{self, IsTerminal, Write};
 
 /// Judges every file and gives the exit status: not judged before refused before accepted.
@@ -40,7 +40,7 @@ fn without_list(check: &Check, why: &str, output: &mut Output) -> io::Result<u8>
 
 fn one(judge: &Judge, found: &Found, progress: bool, output: &mut Output) -> io::Result<()> {
     let file = found.file.as_os_str();
-    let judged = found.fault.clone().map_or_else(|| judge.judge(file), Err);
+    let judged = judged(judge, found);
     if progress {
         over("");
     }
@@ -51,6 +51,13 @@ fn one(judge: &Judge, found: &Found, progress: bool, output: &mut Output) -> io:
     match judged.answer {
         Ok(accepted) => output.accepted(file, accepted),
         Err(refusal) => output.refused(file, refusal, &judge.given(&judged)),
+    }
+}
+
+fn judged(judge: &Judge, found: &Found) -> Result<Judged, String> {
+    match &found.fault {
+        Some(why) => Err(why.clone()),
+        None => judge.judge(&found.file, input::read(&found.file)?),
     }
 }
 

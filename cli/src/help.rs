@@ -60,8 +60,9 @@ Usage: onnx-gate check [OPTIONS] MODEL...
 
 MODEL is a file, - for standard input, or a folder: then every file below it that ends in .onnx or .ONNX, by name.
 Links to files are read, links to folders are told and not followed. What has such a name must be a regular file; under
-another name a pipe will do. At most 2,147,483,648 bytes of a file are read: a longer model is refused. More than one
-model, or a folder, ends with a line that counts the answers.
+another name a pipe will do. At most 2,147,483,648 bytes of a file are read: a longer model is refused. A large file is
+judged where it lies, without a copy in memory, if it is your own and nobody writes to it; one that is written to
+meanwhile is judged as it was. More than one model, or a folder, ends with a line that counts the answers.
 
 Options:
 ",
@@ -89,7 +90,7 @@ usage, a file or folder that cannot be read or holds no model, or no memory for 
 pub const PASS: &str = concat!(
     "\
 Writes the bytes of a model to standard output if it is accepted, and nothing otherwise. They are the bytes that were
-checked, whatever happens to the file meanwhile. The verdict goes to standard error.
+checked, all of which are held in memory, whatever happens to the file meanwhile. The verdict goes to standard error.
 
 Usage: onnx-gate pass [OPTIONS] MODEL >OUT
 

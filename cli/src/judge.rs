@@ -1,7 +1,8 @@
 //! The library's answer to a model, on the terms that the command line sets.
 use crate::args::{Operators, Terms};
 use crate::explain::Given;
-use crate::{complain, input, lists, text};
+use crate::input::{self, Model};
+use crate::{complain, lists, text};
 use onnx_gate::{operators, Accepted, Options, Refusal};
 use std::ffi::OsStr;
 
@@ -10,9 +11,9 @@ pub struct Judge {
     options: Options,
 }
 
-/// The bytes that were read, and the answer to these bytes.
+/// The bytes of a model, and the answer to these bytes.
 pub struct Judged {
-    pub model: Vec<u8>,
+    pub model: Model,
     pub answer: Result<Accepted, Refusal>,
     cells: usize,
 }
@@ -35,8 +36,7 @@ impl Judge {
     }
 
     /// The answer to the model in a file, or why there is none.
-    pub fn judge(&self, file: &OsStr) -> Result<Judged, String> {
-        let model = input::read(file)?;
+    pub fn judge(&self, file: &OsStr, model: Model) -> Result<Judged, String> {
         warn_of_size(file, model.len() as u64);
         let checked = self.options.check(&model, &self.list).map_err(|why| why.to_string())?;
         Ok(Judged { model, answer: checked.answer, cells: checked.cells })

@@ -9,6 +9,7 @@ mod input;
 mod json;
 mod judge;
 mod lists;
+mod mapped;
 mod notes;
 mod output;
 mod pass;

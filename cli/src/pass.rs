@@ -2,7 +2,7 @@
 use crate::args::Pass;
 use crate::judge::Judge;
 use crate::output::{self, Output};
-use crate::{complain, WRONG};
+use crate::{complain, input, WRONG};
 use std::io::{self, IsTerminal, Write};
 
 /// The verdict goes to standard error. Not a byte goes to standard output before the model is accepted.
@@ -21,7 +21,8 @@ pub fn run(pass: &Pass) -> io::Result<u8> {
     };
     let mut verdict = Output::new(output::errors()?, false, false);
     let file = pass.model.as_os_str();
-    match judge.judge(file) {
+    // a copy, whose bytes are there to be written however long the reader takes
+    match input::copy(file).and_then(|model| judge.judge(file, model)) {
         Err(why) => verdict.not_judged(file, &why)?,
         Ok(judged) => match judged.answer {
             Err(refusal) => verdict.refused(file, refusal, &judge.given(&judged))?,

@@ -5,7 +5,6 @@ test_answers() {
     examples "$@"
     as_json
     bad_input
-    large_input
     dear_explanations
     many_names
     operator_lists
@@ -88,18 +87,6 @@ bad_input() {
     same "standard input" "$(cat "$work/out")" "-: accepted nodes 2 names 4"
     run "$gate" check "$root"/examples/*.onnx 2>/dev/null | head -1 >"$work/out"
     same "a reader that stops" "$(cut -d: -f2 "$work/out" | cut -d' ' -f2-4)" "refused 1 at"
-}
-
-# A file of 5 GB within 400 MB of memory; one byte more and none more than the largest model.
-large_input() {
-    truncate -s 5G large.onnx && truncate -s 67108865 above.onnx && truncate -s 67108864 largest.onnx
-    run "${within[@]}" 400000 "$gate" check large.onnx >"$work/out" 2>"$work/err"
-    same "status for 5 GB" $? 1
-    same "answer for 5 GB" "$(head -1 "$work/out")" "large.onnx: refused 7 at 0"
-    same "message for 5 GB" "$(cut -d, -f1 "$work/err" | cut -d' ' -f1-5)" "onnx-gate: large.onnx is larger than"
-    try 1 'above.onnx: refused 7 at 0*' '*larger than any model*' check above.onnx
-    try 1 'largest.onnx: refused 3 at 0*' '' check largest.onnx
-    rm -f large.onnx above.onnx largest.onnx
 }
 
 # Models of 64 MB that are dear to explain, within 10 MB more, and too little memory for any explanation.

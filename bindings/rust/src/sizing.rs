@@ -1,12 +1,13 @@
 //! The check with cells of its own: how many, and under a seed that nobody knows.
 use crate::skim::{skim, Need};
-use crate::{check_indexed, Accepted, Refusal, LARGEST_MODEL};
+use crate::{check_indexed, check_with, operators, Accepted, Refusal, LARGEST_MODEL};
 use std::fmt;
 use std::hash::{BuildHasher, Hasher, RandomState};
 
-/// The most bytes that cells and extra cells take together, where nobody says otherwise. No model of `LARGEST_MODEL`
-/// bytes or less needs more than 601 MB, so that none is refused for it.
-pub const MEMORY: usize = 1 << 30;
+/// The most bytes that cells and extra cells take together, where nobody says otherwise. It is a bound and not a
+/// request: more cells are asked for as the answer 40 calls for them. No model of `LARGEST_MODEL` bytes or less needs
+/// more than 19.3 GB, so that none is refused for it.
+pub const MEMORY: usize = 18 << 30;
 
 const CELL: usize = size_of::<u32>();
 
@@ -15,6 +16,15 @@ const LEAST_NAME: usize = 3;
 
 /// The bytes of an import, initializer, named node or attribute that is not refused before its name is kept, at least.
 const LEAST_ENTRY: usize = 7;
+
+/// The bytes of an entry of an operator list, at least.
+const LEAST_LISTED: usize = 10;
+
+/// A sound operator list that allows nothing.
+const NOTHING: [u8; 5] = [0, 0, 0, 1, 1];
+
+/// The first refusal of an import: those with a smaller number come before any name is kept.
+const IMPORTED_TWICE: u64 = 13;
 
 /// Up to this size a model gets what any model of its size can need; a larger one is skimmed.
 const SMALL: usize = 4096 * LEAST_ENTRY;
@@ -70,12 +80,13 @@ impl Options {
     /// Accepts or refuses `model` for a runtime that has `operators`.
     pub fn check(&self, model: &[u8], operators: &[u8]) -> Result<Checked, NoMemory> {
         let seed = self.seed.unwrap_or_else(random);
-        let need = need(model);
+        let need = need(model, operators);
         let most = self.most(model.len());
         let mut cells = need.names.min(FIRST).min(most);
         loop {
-            let (mut own, mut extra) = (zeroed(cells)?, zeroed(self.extra(cells, need.lists))?);
+            let (mut own, mut extra) = (zeroed(cells)?, zeroed(self.extra(cells, need.lists(cells)))?);
             let answer = check_indexed(model, operators, &mut own, &mut extra, seed);
+            // `enoughCells` in crates/rules/specs/Demands.antt: with more cells an answer stays, unless it is a 40
             match next(cells, need.names, most) {
                 Some(more) if matches!(answer, Err(refusal) if refusal.number == 40) => cells = more,
                 _ => return Ok(Checked { answer, cells }),
@@ -105,16 +116,29 @@ pub fn check(model: &[u8], operators: &[u8]) -> Result<Accepted, Refusal> {
     Options::default().check(model, operators).unwrap_or_else(|why| panic!("{why}")).answer
 }
 
-fn need(model: &[u8]) -> Need {
-    let most = Need { names: model.len() / LEAST_NAME, lists: model.len() / LEAST_ENTRY };
+fn need(model: &[u8], operators: &[u8]) -> Need {
+    let names = model.len() / LEAST_NAME;
     if model.len() <= SMALL {
-        return most;
+        return Need { names, free: model.len() / LEAST_ENTRY, ..Need::default() };
     }
     if model.len() > LARGEST_MODEL {
         return Need::default();
     }
     let found = skim(model);
-    Need { names: found.names.min(most.names), lists: found.lists.min(most.lists) }
+    if found.free > FIRST && ends_before_lists(model, operators) {
+        return Need::default();
+    }
+    // no import is kept that the operator list does not have
+    let imports = found.imports.min(operators.len() / LEAST_LISTED);
+    Need { names: found.names.min(names), imports, ..found }
+}
+
+/// Whether the model is refused before a name is kept, as the library says: under a list that allows nothing, and with
+/// no cells, it answers in linear time, at the latest at the first import. What it refuses before that, it refuses under
+/// every sound list.
+fn ends_before_lists(model: &[u8], operators: &[u8]) -> bool {
+    let early = |refusal: Refusal| refusal.number < IMPORTED_TWICE;
+    !operators::is_sound(operators) || check_with(model, &NOTHING, &mut []).is_err_and(early)
 }
 
 /// How many cells to try after `cells` were too few: as many as were counted, and should these not do, up to `most`.

@@ -6,59 +6,132 @@
 pub struct Need {
     /// Names that are visible at once: inputs, initializers and node outputs.
     pub names: usize,
-    /// Names of lists that are open at once: imports, initializers, named nodes and attributes.
-    pub lists: usize,
+    /// Imports with a domain.
+    pub imports: usize,
+    /// Names of lists that are open at once and each have a visible name to them, so that they are no more than the
+    /// cells: initializers of the main graph, or named nodes with an output.
+    pub bound: usize,
+    /// Names of lists that are open at once and have none: attributes, and named nodes whose outputs are left out.
+    pub free: usize,
 }
 
-/// The messages that hold what is counted.
-#[derive(Clone, Copy)]
-enum Message {
-    Model,
-    Graph,
-    Node,
-    Attribute,
+impl Need {
+    /// Names of lists that are open at once in a walk with so many cells.
+    pub fn lists(&self, cells: usize) -> usize {
+        self.imports + self.bound.min(cells) + self.free
+    }
 }
-use Message::{Attribute, Graph, Model, Node};
 
 /// The library refuses deeper graphs before it remembers a name.
 const DEEPEST: usize = 8;
 
+/// The contents of an import, initializer, named node or attribute whose name is kept have at least the name or domain,
+/// in three bytes, and a number or an operator type.
+const LEAST_CONTENTS: usize = 5;
+
 /// Counts up to the first byte that makes no sense: the library refuses such a model before it remembers a name.
 pub fn skim(model: &[u8]) -> Need {
-    let mut need = Need::default();
-    let _ = need.count(Model, model, 0);
-    need
+    let mut skimmed = Skimmed::default();
+    let _ = skimmed.model(model);
+    skimmed.most
 }
 
-impl Need {
-    /// Adds what a message holds; none where it cannot be read to its end. `depth` is that of the graph around it.
-    fn count(&mut self, message: Message, mut rest: &[u8], depth: usize) -> Option<()> {
-        while !rest.is_empty() {
-            let (number, contents, after) = field(rest)?;
-            rest = after;
-            match (message, number) {
-                (Model, 7) | (Attribute, 6 | 11) if depth < DEEPEST => self.count(Graph, contents, depth + 1)?,
-                (Model, 8) => self.lists += 1,
-                (Graph, 1) => self.count(Node, contents, depth)?,
-                (Graph, 5) => {
-                    self.names += 1;
-                    self.lists += 1;
-                }
-                (Graph, 11) => self.names += 1,
-                (Node, 2) if !contents.is_empty() => self.names += 1,
-                (Node, 3) if !contents.is_empty() => self.lists += 1,
-                (Node, 5) => {
-                    self.lists += 1;
-                    self.count(Attribute, contents, depth)?;
-                }
+/// What was counted so far, and how much of `bound` and `free` is open where the pass stands. A list is closed with the
+/// message that it is a list of.
+#[derive(Default)]
+struct Skimmed {
+    most: Need,
+    bound: usize,
+    free: usize,
+}
+
+/// Each of these is none where a message cannot be read to its end.
+impl Skimmed {
+    fn model(&mut self, message: &[u8]) -> Option<()> {
+        for field in fields(message) {
+            match field? {
+                (7, graph) => self.graph(graph, 1)?,
+                (8, import) if can_be_kept(import) => self.most.imports += 1,
                 _ => {}
             }
         }
         Some(())
     }
+
+    fn graph(&mut self, message: &[u8], depth: usize) -> Option<()> {
+        let (bound, free) = (self.bound, self.free);
+        let mut initializers = 0;
+        for field in fields(message) {
+            match field? {
+                (1, node) => self.node(node, depth)?,
+                (5, initializer) => {
+                    self.most.names += 1;
+                    initializers += usize::from(depth == 1 && can_be_kept(initializer));
+                }
+                (11, _) => self.most.names += 1,
+                _ => {}
+            }
+        }
+        // their list is closed before that of the nodes is begun
+        self.most.bound = self.most.bound.max(initializers);
+        (self.bound, self.free) = (bound, free);
+        Some(())
+    }
+
+    fn node(&mut self, message: &[u8], depth: usize) -> Option<()> {
+        let (bound, free) = (self.bound, self.free);
+        let (mut named, mut outputs) = (false, 0);
+        for field in fields(message) {
+            match field? {
+                (2, name) => outputs += usize::from(!name.is_empty()),
+                (3, name) => named |= !name.is_empty(),
+                (5, attribute) => self.attribute(attribute, depth)?,
+                _ => {}
+            }
+        }
+        self.most.names += outputs;
+        let listed = usize::from(named && can_be_kept(message));
+        (self.bound, self.free) = if outputs > 0 { (bound + listed, free) } else { (bound, free + listed) };
+        self.keep();
+        Some(())
+    }
+
+    fn attribute(&mut self, message: &[u8], depth: usize) -> Option<()> {
+        for field in fields(message) {
+            match field? {
+                (6 | 11, graph) if depth < DEEPEST => self.graph(graph, depth + 1)?,
+                _ => {}
+            }
+        }
+        self.free += usize::from(can_be_kept(message));
+        self.keep();
+        Some(())
+    }
+
+    fn keep(&mut self) {
+        self.most.bound = self.most.bound.max(self.bound);
+        self.most.free = self.most.free.max(self.free);
+    }
 }
 
-/// The first field of a message: its number, its contents (none for a varint), and what follows it.
+fn can_be_kept(message: &[u8]) -> bool {
+    message.len() >= LEAST_CONTENTS
+}
+
+/// The fields of a message, each with its number and its contents (none for a varint); the last is none where they
+/// cannot be read on.
+fn fields(mut rest: &[u8]) -> impl Iterator<Item = Option<(u32, &[u8])>> {
+    std::iter::from_fn(move || {
+        let here = std::mem::take(&mut rest);
+        (!here.is_empty()).then(|| {
+            let (number, contents, after) = field(here)?;
+            rest = after;
+            Some((number, contents))
+        })
+    })
+}
+
+/// The first field of a message: its number, its contents, and what follows it.
 fn field(bytes: &[u8]) -> Option<(u32, &[u8], &[u8])> {
     let (tag, rest) = varint(bytes)?;
     let number = u32::try_from(tag).ok().map(|tag| tag >> 3).filter(|number| *number > 0)?;

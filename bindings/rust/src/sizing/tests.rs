@@ -12,9 +12,11 @@ fn outputs(count: usize) -> Vec<u8> {
     [&b"\x08\x08\x42\x02\x10\x0D"[..], &part(7, &[b"\x12\x01g", &node[..]].concat())].concat()
 }
 
+/// A field whose length takes five bytes, whatever it is.
 fn part(number: u8, contents: &[u8]) -> Vec<u8> {
-    let length = (0..5).map(|i| (contents.len() >> (7 * i)) as u8 & 0x7F | if i < 4 { 0x80 } else { 0 });
-    [number << 3 | 2].into_iter().chain(length).chain(contents.iter().copied()).collect()
+    let digit = |i: usize| (contents.len() >> (7 * i)) as u8 & 0x7F | if i < 4 { 0x80 } else { 0 };
+    let length: [u8; 5] = std::array::from_fn(digit);
+    [&[number << 3 | 2], &length[..], contents].concat()
 }
 
 fn list() -> Vec<u8> {
@@ -93,13 +95,66 @@ fn extra_cells_fit_the_memory() {
 
 #[test]
 fn what_is_needed() {
-    assert_eq!(need(&[0; SMALL]), Need { names: SMALL / 3, lists: 4096 });
-    assert_eq!(need(&[0; SMALL + 1]), Need::default());
-    // attributes of no bytes are more than any judged list can hold
-    let mut hostile = part(7, &part(1, &[0x2A, 0].repeat(50_000)));
-    assert_eq!(need(&hostile).lists, hostile.len() / 7);
-    hostile.resize(LARGEST_MODEL + 1, 0);
-    assert_eq!(need(&hostile), Need::default());
+    let small = Need { names: SMALL / 3, free: 4096, ..Need::default() };
+    assert_eq!(need(&[0; SMALL], &list()), small);
+    assert_eq!(need(&[0; SMALL + 1], &list()), Need::default());
+    assert_eq!(need(&vec![0; LARGEST_MODEL + 1], &list()), Need::default());
+}
+
+/// A model with the graph given, which the wire rules let pass.
+fn model(graph: &[u8]) -> Vec<u8> {
+    [&b"\x08\x08\x42\x02\x10\x0D"[..], &part(7, &[b"\x12\x01g", graph].concat())].concat()
+}
+
+/// An attribute, of eight bytes, that may be kept.
+const ATTRIBUTE: &[u8] = b"\x2A\x06\x0A\x01a\xA0\x01\x01";
+
+/// What is counted by the million and cannot be kept costs no memory in proportion.
+#[test]
+fn hostile_counts() {
+    let many = 2 * FIRST;
+    let asked = |model: &[u8]| {
+        let need = need(model, &list());
+        let cells = need.names.min(FIRST);
+        cells + Options::default().extra(cells, need.lists(cells))
+    };
+    // five for each name of a first try, and four for each of its lists
+    let few = 5 * FIRST + 4 * FIRST + 100;
+    let import = b"\x42\x05\x0A\x01d\x10\x01";
+    for (what, hostile) in [
+        ("attributes of no bytes", model(&part(1, &b"\x2A\x00".repeat(many)))),
+        ("imports", [model(b""), import.repeat(many)].concat()),
+        ("initializers of one name", model(&b"\x2A\x05\x10\x01\x42\x01w".repeat(many))),
+        ("nodes of one name", model(&b"\x0A\x09\x12\x01a\x1A\x01n\x22\x01X".repeat(many))),
+        ("attributes of many nodes", model(&part(1, ATTRIBUTE).repeat(many))),
+        ("attributes before a fault of the wire", model(&[part(1, &ATTRIBUTE.repeat(many)), vec![0]].concat())),
+        ("attributes without an import", part(7, &part(1, &ATTRIBUTE.repeat(many)))),
+    ] {
+        assert!(asked(&hostile) <= few, "{what}: {}", asked(&hostile));
+        assert!(check(&hostile, &list()).is_err(), "{what}");
+    }
+    let kept = model(&part(1, &ATTRIBUTE.repeat(many)));
+    assert_eq!(asked(&kept), 2 + 4 * many, "as many as may be kept");
+    assert_eq!(need(&kept, &[]), Need::default(), "under a list that is not sound");
+}
+
+/// Lists that are longer than any first try has room for take no longer, name for name.
+#[test]
+fn long_lists() {
+    let name = |field: u8, first: char, i: usize| [&[field, 7][..], format!("{first}{i:06x}").as_bytes()].concat();
+    let attribute = |i| part(5, &[&name(0x0A, 'a', i)[..], b"\xA0\x01\x01"].concat());
+    let count = FIRST + 1_000;
+    let attributes: Vec<u8> = (0..count).flat_map(attribute).collect();
+    let node = part(1, &[b"\x12\x01y\x22\x01X", &attributes[..]].concat());
+    assert_eq!(check(&model(&node), &list()), Ok(Accepted { nodes: 1, names: 1 }));
+    let nodes = |output, count| -> Vec<u8> {
+        let node = |i| part(1, &[name(0x12, output, i), name(0x1A, 'n', i), b"\x22\x01X".to_vec()].concat());
+        (0..count).flat_map(node).collect()
+    };
+    let all = Accepted { nodes: count as u64, names: count as u64 };
+    assert_eq!(check(&model(&nodes('v', count)), &list()), Ok(all));
+    let twice = [nodes('v', count), nodes('w', 1)].concat();
+    assert_eq!(check(&model(&twice), &list()).map_err(|r| r.number), Err(29));
 }
 
 /// All tries together have at most three times the cells of the last.
@@ -112,7 +167,7 @@ fn tries_grow() {
             tries.push(cells);
         }
         assert_eq!(tries.last(), Some(&counted));
-        assert!(tries.iter().sum::<usize>() <= 3 * counted && tries.len() <= 4, "{tries:?}");
+        assert!(tries.iter().sum::<usize>() <= 3 * counted && tries.len() <= 6, "{tries:?}");
     }
     // should the count be wrong, everything that can help is tried
     assert_eq!((next(0, 0, 50), next(50, 50, 50), next(60_000, 60_000, 60_001)), (Some(50), None, Some(60_001)));

@@ -16,37 +16,88 @@ fn varint_of(mut value: u64) -> Vec<u8> {
     out
 }
 
-fn need(names: usize, lists: usize) -> Need {
-    Need { names, lists }
+fn need(names: usize, bound: usize, free: usize) -> Need {
+    Need { names, bound, free, ..Need::default() }
 }
+
+fn imports(imports: usize) -> Need {
+    Need { imports, ..Need::default() }
+}
+
+const IMPORT: &[u8] = b"\x0A\x01d\x10\x01";
+const INITIALIZER: &[u8] = b"\x10\x01\x42\x01w";
+const ATTRIBUTE: &[u8] = b"\x0A\x01a\xA0\x01\x01";
 
 /// A graph with an input, an initializer, and a node with two outputs, an empty one, a name and the attribute given.
 fn graph(attribute: &[u8]) -> Vec<u8> {
     let outputs = [field_of(2, b"a"), field_of(2, b"b"), field_of(2, b"")].concat();
     let node = [field_of(1, b"i"), outputs, field_of(3, b"n"), field_of(4, b"X"), field_of(5, attribute)].concat();
-    let values = [field_of(5, b"\x42\x01w"), field_of(11, b"\x0A\x01i"), field_of(12, b"")].concat();
+    let values = [field_of(5, INITIALIZER), field_of(11, b"\x0A\x01i"), field_of(12, b"")].concat();
     [field_of(2, b"g"), values, field_of(1, &node)].concat()
+}
+
+/// A node with a name, the attributes given, and the output given.
+fn node(attributes: &[u8], output: &[u8]) -> Vec<u8> {
+    field_of(1, &[field_of(2, output), field_of(3, b"n"), field_of(4, b"X"), attributes.to_vec()].concat())
 }
 
 #[test]
 fn what_is_counted() {
-    let model = [vec![0x08, 0x08], field_of(8, b""), field_of(8, b"\x0A\x01d"), field_of(7, &graph(b""))].concat();
-    assert_eq!(skim(&model), need(4, 2 + 1 + 1 + 1));
-    let unnamed = field_of(7, &field_of(1, &[field_of(3, b""), field_of(2, b"a")].concat()));
-    assert_eq!(skim(&unnamed), need(1, 0));
+    let graph_field = field_of(7, &graph(ATTRIBUTE));
+    let model = [vec![0x08, 0x08], field_of(8, b"\x10\x01"), field_of(8, IMPORT), graph_field].concat();
+    assert_eq!(skim(&model), Need { imports: 1, ..need(4, 1, 1) });
+    let unnamed = field_of(7, &field_of(1, &[field_of(3, b""), field_of(2, b"a"), field_of(4, b"X")].concat()));
+    assert_eq!(skim(&unnamed), need(1, 0, 0));
     let fixed = vec![0x79, 1, 2, 3, 4, 5, 6, 7, 8, 0x7D, 1, 2, 3, 4];
-    assert_eq!(skim(&[field_of(99, &graph(b"")), fixed, field_of(8, b"")].concat()), need(0, 1), "unknown ones");
-    let padded = [&[0x08][..], &[0xFF; 9], &[1, 0xC2, 0x80, 0x80, 0x80, 0, 0x80, 0x80, 0]].concat();
-    assert_eq!(skim(&padded), need(0, 1), "varints of ten bytes, five and three");
+    let unknown = [field_of(99, &graph(ATTRIBUTE)), fixed, field_of(8, IMPORT)].concat();
+    assert_eq!(skim(&unknown), imports(1), "unknown ones");
+    let padded = [&[0x08][..], &[0xFF; 9], &[1, 0xC2, 0x80, 0x80, 0x80, 0, 0x85, 0x80, 0], IMPORT].concat();
+    assert_eq!(skim(&padded), imports(1), "varints of ten bytes, five and three");
+}
+
+/// What is too short to be kept is a name at most.
+#[test]
+fn what_cannot_be_kept() {
+    for bytes in 0..=4 {
+        let nodes = field_of(1, &field_of(5, &vec![0x78; bytes])).repeat(9);
+        let initializers = field_of(5, &[0x78; 4][..bytes]).repeat(9);
+        let graph_field = field_of(7, &[nodes, initializers].concat());
+        let found = skim(&[field_of(8, &vec![0x78; bytes]).repeat(9), graph_field].concat());
+        assert_eq!((found.imports, found.bound, found.free), (0, 0, 0), "{bytes}");
+    }
+    assert_eq!(skim(&field_of(7, &field_of(1, b"\x1A\x01n").repeat(9))), need(0, 0, 0));
+}
+
+/// Lists of different nodes are not open together, nor those of nodes and of initializers; what is open around them is.
+#[test]
+fn lists_that_are_open_at_once() {
+    let attributes = |count| field_of(5, ATTRIBUTE).repeat(count);
+    let model = |nodes: &[Vec<u8>]| field_of(7, &nodes.concat());
+    assert_eq!(skim(&model(&[node(&attributes(9), b"a"), node(&attributes(7), b"b")])), need(2, 2, 9));
+    // the output is left out
+    assert_eq!(skim(&model(&[node(&attributes(9), b""), node(&attributes(9), b"")])), need(0, 0, 10));
+    assert_eq!(skim(&model(&vec![node(&[], b""); 50])), need(0, 0, 50));
+    let initializers = field_of(5, INITIALIZER).repeat(5);
+    assert_eq!(skim(&model(&[initializers, node(&[], b"a").repeat(3)])), need(8, 5, 0));
+    let inner = [node(&attributes(3), b"c"), node(&attributes(1), b"d"), field_of(5, INITIALIZER).repeat(9)].concat();
+    let holder = [attributes(4), field_of(5, &field_of(6, &inner)), attributes(2)].concat();
+    let nested = model(&[node(&[], b"a"), node(&holder, b"b"), node(&[], b"e")]);
+    assert_eq!(skim(&nested), need(14, 3, 7));
+}
+
+#[test]
+fn what_cells_bound() {
+    let need = Need { names: 9, imports: 2, bound: 50, free: 300 };
+    assert_eq!((need.lists(0), need.lists(7), need.lists(1000)), (302, 309, 352));
 }
 
 #[test]
 fn graphs_in_graphs() {
-    let mut inner = graph(b"");
+    let mut inner = graph(ATTRIBUTE);
     for depth in 2..=40 {
-        inner = graph(&field_of(if depth % 2 == 0 { 6 } else { 11 }, &inner));
-        let met = depth.min(8);
-        assert_eq!(skim(&field_of(7, &inner)), need(4 * met, 3 * met), "depth {depth}");
+        inner = graph(&[&field_of(if depth % 2 == 0 { 6 } else { 11 }, &inner), ATTRIBUTE].concat());
+        // a node is listed when its attributes are not open any more, and so is an attribute
+        assert_eq!(skim(&field_of(7, &inner)), need(4 * depth.min(8), 1, 1), "depth {depth}");
     }
 }
 
@@ -54,12 +105,12 @@ fn graphs_in_graphs() {
 #[test]
 fn nesting_without_end() {
     let inner = (0..2_000).fold(Vec::new(), |inner, _| field_of(1, &field_of(5, &field_of(6, &inner))));
-    assert_eq!(skim(&field_of(7, &inner)), need(0, 8));
+    assert_eq!(skim(&field_of(7, &inner)), need(0, 0, 1));
 }
 
 #[test]
 fn lengths_that_make_no_sense() {
-    let sound = field_of(8, b"");
+    let sound = field_of(8, IMPORT);
     for bad in [
         &b"\x3A\xFF\xFF\xFF\xFF\xFF\xFF\xFF\xFF\xFF\x01"[..],
         b"\x3A\xFF\xFF\xFF\xFF\xFF\xFF\xFF\xFF\xFF\xFF\xFF",
@@ -77,10 +128,10 @@ fn lengths_that_make_no_sense() {
         b"\xBA\x80\x80\x80\x80\x01\x00",
         b"\xFF\xFF\xFF\xFF\xFF\xFF\xFF\xFF\xFF\xFF",
     ] {
-        assert_eq!(skim(bad), need(0, 0), "{bad:x?}");
-        assert_eq!(skim(&[&sound, bad].concat()), need(0, 1), "{bad:x?}");
+        assert_eq!(skim(bad), imports(0), "{bad:x?}");
+        assert_eq!(skim(&[&sound, bad].concat()), imports(1), "{bad:x?}");
     }
-    assert_eq!(skim(&[field_of(7, b"\x0A\x05"), sound].concat()), need(0, 0), "nothing is counted after it");
+    assert_eq!(skim(&[field_of(7, b"\x0A\x05"), sound].concat()), imports(0), "nothing is counted after it");
 }
 
 /// Whatever the bytes, no more is counted than they have room for; where the library accepts, no less than it needs.
@@ -90,7 +141,7 @@ fn bounds_hold() {
     let mut accepted = 0;
     for model in damaged(300) {
         let found = skim(&model);
-        assert!(found.names + found.lists <= model.len());
+        assert!(found.names + found.lists(usize::MAX) <= model.len());
         if let Ok(counts) = check_with(&model, &list, &mut [0; 256]) {
             accepted += 1;
             assert!(counts.names as usize <= found.names, "{counts} and {found:?}");
