@@ -1,7 +1,9 @@
 /* How many cells a model can need. Only memory is sized by it: the library judges, and any bytes are survived here. */
 #include "onnx_gate_sizing.h"
+#include "onnx_gate.h"
 
 #define LARGEST_MODEL 2147483647
+#define LONG_LISTS 65536 /* a megabyte for their names */
 #define DEEPEST 8     /* graphs in graphs; the library refuses deeper ones before it keeps a name */
 #define LEAST_NAME 3  /* bytes of a field that holds a visible name */
 #define LEAST_ENTRY 7 /* bytes of an import, initializer, named node or attribute; a shorter one is refused, and so the last */
@@ -114,13 +116,23 @@ static size_t least(size_t one, size_t other)
     return one < other ? one : other;
 }
 
+/* Whether the library refuses a model before it keeps a name. Where no operators are allowed it refuses the first import with 14, and
+ * every other answer comes before that. */
+static int keeps_nothing(const uint8_t *model, size_t model_length)
+{
+    static const uint8_t no_operators[] = {0, 0, 0, 1, 1};
+    struct onnx_gate_answer answer = onnx_gate_check(model, model_length, no_operators, sizeof no_operators, NULL, 0);
+    return answer.refusal != ONNX_GATE_VERSION_NOT_LISTED;
+}
+
 struct onnx_gate_need onnx_gate_needed(const uint8_t *model, size_t model_length)
 {
-    struct count count = {model, {0, 0}};
-    if (model_length > LARGEST_MODEL || !count_message(&count, MODEL, 0, model_length, 0)) {
-        count.need.names = count.need.lists = 0;
-        return count.need;
-    }
+    struct onnx_gate_need nothing = {0, 0};
+    struct count count = {model, nothing};
+    if (model_length > LARGEST_MODEL || !count_message(&count, MODEL, 0, model_length, 0))
+        return nothing;
+    if (count.need.lists > LONG_LISTS && keeps_nothing(model, model_length))
+        return nothing;
     count.need.names = least(count.need.names, model_length / LEAST_NAME);
     count.need.lists = least(count.need.lists, model_length / LEAST_ENTRY);
     return count.need;

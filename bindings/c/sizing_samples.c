@@ -114,17 +114,23 @@ static void check_changes(uint8_t *page)
     expect(accepted > length, "accepted changes", accepted);
 }
 
+/* A tag, and a length in five bytes. */
+static void put_head(uint8_t *at, uint8_t tag, size_t length)
+{
+    size_t i;
+    *at = tag;
+    for (i = 0; i < 5; i++)
+        at[1 + i] = (uint8_t)((length >> 7 * i & 0x7F) | (i < 4 ? 0x80 : 0));
+}
+
 /* So many graphs in graphs, each the body of an attribute of eight bytes or more; each length takes five bytes. */
 static struct onnx_gate_need nested(uint8_t *space, size_t depth)
 {
     static const uint8_t tags[] = {0x0A, 0x2A, 0x32};
-    size_t at = 65536, end = at, level, i;
-    for (level = 0; level < 3 * depth - 2; level++) {
-        size_t length = end - at;
+    size_t at = 65536, end = at, level;
+    for (level = 3 * depth - 2; level > 0; level--) {
         at -= 6;
-        space[at] = level + 1 == 3 * depth - 2 ? 0x3A : tags[2 - level % 3];
-        for (i = 0; i < 5; i++)
-            space[at + 1 + i] = (uint8_t)((length >> 7 * i & 0x7F) | (i < 4 ? 0x80 : 0));
+        put_head(space + at, level == 1 ? 0x3A : tags[(level - 2) % 3], end - at - 6);
     }
     return onnx_gate_needed(space + at, end - at);
 }
@@ -134,6 +140,30 @@ static void check_depth(uint8_t *space)
     struct onnx_gate_need eight = nested(space, 8), nine = nested(space, 9), many = nested(space, 3000);
     expect(eight.names == 0 && eight.lists == 7, "depth", 8);
     expect(nine.lists == 0 && many.lists == 0, "depth", 9);
+}
+
+/* Of a model with this ir_version, so many initializers, and one name of its graph or two. */
+static struct onnx_gate_need of_many(uint8_t *model, uint8_t ir_version, size_t count, size_t names)
+{
+    size_t graph = 7 * count + 3 * names, i;
+    memcpy(model, "\x08\x08\x42\x02\x10\x0D", 6);
+    model[1] = ir_version;
+    put_head(model + 6, 0x3A, graph);
+    for (i = 0; i < count; i++)
+        memcpy(model + 12 + 7 * i, TENSOR, 7);
+    memcpy(model + 12 + 7 * count, "\x12\x01g\x12\x01g", 3 * names);
+    return onnx_gate_needed(model, 12 + graph);
+}
+
+/* From 65,537 names of lists on the library is asked whether it keeps one. It does not where it refuses with 5, or with 10. */
+static void check_long_lists(uint8_t *model)
+{
+    struct onnx_gate_need unasked = of_many(model, 8, 65536, 2), kept = of_many(model, 8, 65537, 1);
+    struct onnx_gate_need twice = of_many(model, 8, 65537, 2), old = of_many(model, 3, 65537, 1);
+    expect(unasked.names == 65536 && unasked.lists == 65536, "long lists", 65536);
+    expect(kept.names == 65537 && kept.lists == 65537, "long lists", 65537);
+    expect(twice.names == 0 && twice.lists == 0, "long lists, refused with", 5);
+    expect(old.names == 0 && old.lists == 0, "long lists, refused with", 10);
 }
 
 /* Only the first and the last page are written, and so become memory. */
@@ -160,7 +190,8 @@ int main(void)
     check_rows(page);
     check_changes(page);
     check_depth(large);
-    memset(large, 0, 65536);
+    check_long_lists(large);
+    memset(large, 0, PAGE);
     check_large(large);
     printf("%d passed, %d failed\n", passed, failed);
     return failed != 0;

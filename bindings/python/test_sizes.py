@@ -50,6 +50,11 @@ def lent(model, operators=LIST, **bounds):
     return str(answer), [call.args[2:4] for call in indexed.call_args_list]
 
 
+def needed(model):
+    need = _library.needed(model)
+    return need.names, need.lists
+
+
 class Sizes(unittest.TestCase):
     def test_as_many_as_are_counted(self):
         for padding in 0, 5_000_000:
@@ -94,7 +99,7 @@ class Sizes(unittest.TestCase):
     def test_what_cannot_be_read(self):
         for start in b"\x00", b"\x0b", b"\x3a\xff\xff\xff\xff\x7f", b"\xff" * 11, part(7, b"\x0a\x7f"):
             model = start + tensors(100)
-            self.assertEqual(_sizing.needed(model), (0, 0))
+            self.assertEqual(needed(model), (0, 0))
             self.assertNotEqual(onnx_gate.check(model, LIST).refusal, 0)
 
     def test_any_bytes_are_counted(self):
@@ -103,7 +108,7 @@ class Sizes(unittest.TestCase):
             changed = bytearray(model[: source.randrange(len(model) + 1)] if source.randrange(2) else model)
             for _ in range(source.randrange(4) if changed else 0):
                 changed[source.randrange(len(changed))] = source.randrange(256)
-            answer, (names, lists) = onnx_gate.check(changed, LIST, len(changed), 5 * len(changed)), _sizing.needed(bytes(changed))
+            answer, (names, lists) = onnx_gate.check(changed, LIST, len(changed), 5 * len(changed)), needed(bytes(changed))
             accepted += bool(answer)
             self.assertLessEqual(answer.names, names)
             self.assertLessEqual(max(3 * names, 7 * lists), len(changed))

@@ -122,11 +122,10 @@ def _indexed(model: bytes, operators: bytes, cells: int, extra: int, seed: int) 
 
 def _sized(model: bytes, operators: bytes, limit: int, seed: int) -> Answer:
     """Starts with few cells where a model may have many names, and gives more after a 40: no other answer depends on them."""
-    names, lists = _sizing.needed(model)
-    most = _sizing.most_cells(model, limit)
-    cells = min(names, most, _sizing.FIRST)
+    need, most = _library.needed(model), _sizing.most_cells(model, limit)
+    cells = min(need.names, most, _sizing.FIRST)
     while True:
-        answer = _indexed(model, operators, cells, 4 * cells + 2 + 4 * lists, seed)
+        answer = _indexed(model, operators, cells, 4 * cells + 2 + 4 * need.lists, seed)
         if answer.refusal != 40 or cells == most:
             return answer
-        cells = _sizing.more_cells(cells, names, most)
+        cells = _sizing.more_cells(cells, need.names, most)
