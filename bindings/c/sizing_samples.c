@@ -39,6 +39,10 @@ static const struct {
     {BYTES("\xC2\x80\x80\x80\x00\x85\x80\x00\x0A\x01x\x10\x0D"), {0, 1}}, /* a padded tag and length */
     {BYTES(ENTRY "\x79" "12345678" "\x7D" "1234" "\x78\xFF\x01" ENTRY), {0, 2}}, /* unknown fields */
     {BYTES("\x9A\x06\x07" ENTRY ENTRY), {0, 1}},                        /* inside an unknown one nothing is counted */
+    {BYTES("\xDA\x10\x01x"), {0, 0}},                                  /* field 267 of a model is no field 11 of a graph */
+    {BYTES(ENTRY "\x78\xFF\xFF\xFF\xFF\xFF\xFF\xFF\xFF\xFF\x01" ENTRY), {0, 2}}, /* a varint of ten bytes */
+    {BYTES("\x3A\x0A\x0A\x08\x1A\x00\x12\x01" "a\x22\x01X"), {1, 0}}, /* an empty name of a node */
+    {BYTES("\x3A\x0D\x0A\x0B\x2A\x09\x5A\x07" TENSOR), {1, 2}},       /* a graph of field 11 */
     /* what the library refuses with 1 to 3 */
     {BYTES(ENTRY "\x3A"), {0, 0}},
     {BYTES(ENTRY "\x3A\x80"), {0, 0}},
@@ -53,6 +57,7 @@ static const struct {
     {BYTES(ENTRY "\x78\xFF\xFF\xFF\xFF\xFF\xFF\xFF\xFF\xFF\xFF\x01"), {0, 0}},
     {BYTES(ENTRY "\x42\x81\x80\x80\x80\x10" "a"), {0, 0}},                /* 2^32 + 1 bytes, which has one */
     {BYTES(ENTRY "\x42\xFF\xFF\xFF\xFF\xFF\xFF\xFF\xFF\xFF\x01" "a"), {0, 0}}, /* 2^64 - 1 */
+    {BYTES(ENTRY "\x42\xF5\xFF\xFF\xFF\xFF\xFF\xFF\xFF\xFF\x01" "a"), {0, 0}}, /* 2^64 - 11, back to its tag */
     {BYTES("\x3A\x02\x0A\x05" ENTRY), {0, 0}},
 };
 
@@ -166,18 +171,22 @@ static void check_long_lists(uint8_t *model)
     expect(old.names == 0 && old.lists == 0, "long lists, refused with", 10);
 }
 
-/* Only the first and the last page are written, and so become memory. */
+/* Of a model of so many bytes: an initializer, whose contents reach up to an import. What is not written takes no memory. */
+static struct onnx_gate_need of_large(uint8_t *model, size_t length)
+{
+    put_head(model, 0x3A, length - 7 - 6);
+    put_head(model + 6, 0x2A, length - 7 - 12);
+    memcpy(model + 12, "\x42\x01w", 3);
+    put_head(model + 15, 0x4A, length - 7 - 21);
+    memcpy(model + length - 7, ENTRY, 7);
+    return onnx_gate_needed(model, length);
+}
+
 static void check_large(uint8_t *model)
 {
-    /* one initializer, whose contents end seven bytes before the model, and an import */
-    static const char first[] = "\x3A\xF2\xFF\xFF\xFF\x07\x2A\xEC\xFF\xFF\xFF\x07\x42\x01w\x4A\xE3\xFF\xFF\xFF\x07";
-    struct onnx_gate_need need;
-    memcpy(model, first, sizeof first - 1);
-    memcpy(model + MOST - 7, ENTRY, 7);
-    need = onnx_gate_needed(model, MOST);
-    expect(need.names == 1 && need.lists == 2, "large", MOST);
-    need = onnx_gate_needed(model, (size_t)MOST + 1);
-    expect(need.names == 0 && need.lists == 0, "large", (size_t)MOST + 1);
+    struct onnx_gate_need most = of_large(model, MOST), more = of_large(model, (size_t)MOST + 1);
+    expect(most.names == 1 && most.lists == 2, "large", MOST);
+    expect(more.names == 0 && more.lists == 0, "large", (size_t)MOST + 1);
 }
 
 int main(void)
@@ -191,7 +200,6 @@ int main(void)
     check_changes(page);
     check_depth(large);
     check_long_lists(large);
-    memset(large, 0, PAGE);
     check_large(large);
     printf("%d passed, %d failed\n", passed, failed);
     return failed != 0;
