@@ -1,34 +1,89 @@
 /* Checks the model in a file for a runtime that has ai.onnx 7 to 21 and ai.onnx.ml 1 to 5, and prints the answer. */
 #include "onnx_gate.h"
+#include "onnx_gate_sizing.h"
 
 #include <inttypes.h>
 #include <stdio.h>
+#include <stdlib.h>
 #include <sys/random.h>
 
-#define CELLS 65536 /* a model with more names visible at once is refused with 40 */
-#define LISTS 65536 /* a model with longer lists of named nodes, attributes or initializers gets the same answer later */
+#define MOST 2147483648u /* one byte more than may be accepted, so that no model passes because it was cut */
+#define FIRST 65536      /* the most cells of a first try: a file that only claims many names costs no more */
 
 /* what `operators '' 7 21 ai.onnx.ml 1 5` writes */
 static const uint8_t operators[] = {0,   0,   0,   31,  1,   0,   8,   0,   0,   0,   7, 0, 0, 0, 21, 0, 18, 'a',
                                     'i', '.', 'o', 'n', 'n', 'x', '.', 'm', 'l', 0,   0, 0, 1, 0, 0,  0, 5};
-static uint8_t model[67108865]; /* one byte more than may be accepted, so that no model passes because it was cut */
-static uint32_t cells[CELLS], extra[4 * CELLS + 2 + 4 * LISTS];
+
+static void fail(void)
+{
+    perror("example");
+    exit(2);
+}
+
+/* Room for so many bytes, with those that are in the old one. */
+static void *resized(void *old, size_t bytes)
+{
+    void *room = realloc(old, bytes);
+    if (room == NULL)
+        fail();
+    return room;
+}
+
+/* The file to its end, or MOST bytes of it. The room grows with what is read, so that a pipe will do. */
+static uint8_t *read_model(FILE *file, size_t *length)
+{
+    uint8_t *model = NULL;
+    size_t room;
+    *length = 0;
+    for (room = 65536; room <= MOST; room *= 2) {
+        model = (uint8_t *)resized(model, room);
+        *length += fread(model + *length, 1, room - *length, file);
+        if (*length < room)
+            break;
+    }
+    if (ferror(file))
+        fail();
+    return model;
+}
+
+static struct onnx_gate_answer check_with(const uint8_t *model, size_t length, size_t cells, size_t lists, uint64_t seed)
+{
+    size_t extra = 4 * cells + 2 + 4 * lists;
+    uint32_t *lent = (uint32_t *)resized(NULL, (cells + extra) * sizeof *lent);
+    struct onnx_gate_answer answer = onnx_gate_check_indexed(model, length, operators, sizeof operators, lent, cells,
+                                                             lent + cells, extra, seed);
+    free(lent);
+    return answer;
+}
+
+/* With few cells first, and with more as long as the answer is 40: no other answer depends on them. */
+static struct onnx_gate_answer check(const uint8_t *model, size_t length, uint64_t seed)
+{
+    struct onnx_gate_need need = onnx_gate_needed(model, length);
+    size_t cells = need.names < FIRST ? need.names : FIRST;
+    struct onnx_gate_answer answer = check_with(model, length, cells, need.lists, seed);
+    while (answer.refusal == ONNX_GATE_CELLS_FULL && cells < need.names) {
+        cells = need.names / 8 < cells ? need.names : 8 * cells;
+        answer = check_with(model, length, cells, need.lists, seed);
+    }
+    return answer;
+}
 
 int main(int argc, char **argv)
 {
     uint64_t seed;
+    size_t length;
+    uint8_t *model;
+    struct onnx_gate_answer answer;
     FILE *file = argc == 2 ? fopen(argv[1], "rb") : NULL;
     if (file == NULL) {
         fprintf(stderr, "usage: example MODEL\n");
         return 2;
     }
-    size_t length = fread(model, 1, sizeof model, file);
-    if (ferror(file) || getrandom(&seed, sizeof seed, 0) != (ssize_t)sizeof seed) {
-        perror("example");
-        return 2;
-    }
-    struct onnx_gate_answer answer = onnx_gate_check_indexed(model, length, operators, sizeof operators, cells, CELLS, extra,
-                                                             sizeof extra / sizeof extra[0], seed);
+    if (getrandom(&seed, sizeof seed, 0) != (ssize_t)sizeof seed)
+        fail();
+    model = read_model(file, &length);
+    answer = check(model, length, seed);
     if (answer.refusal == 0)
         printf("accepted nodes %" PRIu64 " names %" PRIu64 "\n", answer.nodes, answer.names);
     else

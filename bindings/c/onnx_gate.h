@@ -27,7 +27,7 @@ extern "C" {
 struct onnx_gate_answer {
     uint64_t refusal; /* 0: accepted. Else one of the numbers below. */
     uint64_t place;   /* refused: the byte of the model at which the field at fault begins; for something absent, the message
-                         that lacks it, 0 being the model. 7, 8 and 65 have place 0. */
+                         that lacks it, 0 being the model. 7, 8 and 65 have place 0. Always below 2^31. */
     uint64_t nodes;   /* accepted: how many nodes all graphs have. */
     uint64_t names;   /* accepted: the most names visible together. With fewer cells than this the model is refused with 40. */
 };
@@ -102,12 +102,14 @@ struct onnx_gate_answer onnx_gate_check(const uint8_t *model, size_t model_lengt
  *
  * How many extra cells: 4 * cells_length index the visible names. 2 + 4 * R more make everything linear in the model's length, where
  * R is the most names of lists that are open at once: imports with a domain that is not empty, initializers of the main graph,
- * named nodes of the graphs that are open, attributes of the nodes that are open. R is at most model_length / 7, so that
+ * named nodes of the graphs that are open, attributes of the nodes that are open. With fewer than that, a list that does not fit is
+ * read again for each name in it: the same answer, later. All cells of both kinds are cleared in each call, so that far more of
+ * them than needed cost time as well.
  *
- *     4 * cells_length + 2 + 4 * (model_length / 7)
- *
- * are always enough. With fewer than that, a list that does not fit is read again for each name in it: the same answer, later. All
- * cells of both kinds are cleared in each call, so that far more of them than needed cost time as well.
+ * How much memory: never are more than model_length / 3 names visible, and R is never more than model_length / 7. That comes to 9
+ * bytes for each byte of the model, 19 GB for the largest, and a model that needs anything near it is none that people make. So
+ * begin with few cells, and lend more when the answer is 40: any other answer is the same with more cells. onnx_gate_sizing.h counts
+ * how many cells a model can need, and R.
  */
 struct onnx_gate_answer onnx_gate_check_indexed(const uint8_t *model, size_t model_length, const uint8_t *operators,
                                                 size_t operators_length, uint32_t *cells, size_t cells_length,

@@ -1,9 +1,11 @@
 /* Document 01's sample models through both checks of onnx_gate.h, and the name service. Prints what fails, and how many passed. */
+#define _DEFAULT_SOURCE /* MAP_ANONYMOUS, under -std=c99 */
 #include "onnx_gate.h"
 
 #include <stdio.h>
-#include <stdlib.h>
 #include <string.h>
+#include <sys/mman.h>
+#include <sys/resource.h>
 
 #define L "\x00\x00\x00\x0B\x01\x00\x08\x00\x00\x00\x07\x00\x00\x00\x15"
 #define M0 "\x08\x08\x42\x02\x10\x0D\x3A\x03\x12\x01\x67"
@@ -39,6 +41,33 @@ static const struct sample {
     {BYTES(M0), BYTES("\x00\x00\x00\x01\x01"), 0, {14, 2, 0, 0}},
     {BYTES(M0), BYTES("\x00\x00\x00\x01\x02"), 0, {8, 0, 0, 0}},
     {BYTES(M0), NULL, 0, 3, {8, 0, 0, 0}},
+};
+
+/* The largest size: an initializer first, whose lengths end in these bytes, and last in the graph and in the model what is given. */
+#define MOST 2147483647
+#define FILLED(tensor, contents)                                                                                                   \
+    "\x08\x08\x42\x02\x10\x0D\x3A\xF3\xFF\xFF\xFF\x07\x12\x01\x67\x2A" tensor "\xFF\xFF\xFF\x07"                                     \
+    "\x42\x01\x77\x10\x01\x4A" contents "\xFF\xFF\xFF\x07"
+#define WRITES(name) "\x0A\x06\x12\x01" name "\x22\x01\x58"
+#define READS(name) "\x0A\x09\x0A\x01" name "\x12\x01\x62\x22\x01\x58"
+
+static const struct large {
+    size_t length;
+    const char *first;
+    size_t first_length;
+    const char *last;
+    size_t last_length;
+    size_t cells;
+    struct onnx_gate_answer answer;
+} larges[] = {
+    {MOST, BYTES(""), BYTES(""), 0, {3, 0, 0, 0}},
+    {MOST + UINT64_C(1), BYTES(""), BYTES(""), 0, {7, 0, 0, 0}},
+    {sizeof M1 - 1 + (UINT64_C(1) << 32), BYTES(M1), BYTES(""), 1, {7, 0, 0, 0}}, /* in 32 bits its length is that of M1 */
+    {MOST, BYTES(FILLED("\xE2", "\xD7")), BYTES(WRITES("a")), 2, {0, 0, 1, 2}},
+    {MOST, BYTES(FILLED("\xE2", "\xD7")), BYTES(WRITES("a")), 1, {40, MOST - 6, 0, 0}},
+    {MOST, BYTES(FILLED("\xE2", "\xD7")), BYTES(WRITES("w")), 2, {23, MOST - 6, 0, 0}},
+    {MOST, BYTES(FILLED("\xDF", "\xD4")), BYTES(READS("w")), 2, {0, 0, 1, 2}},
+    {MOST, BYTES(FILLED("\xDF", "\xD4")), BYTES(READS("q")), 2, {30, MOST - 9, 0, 0}},
 };
 
 static const struct {
@@ -140,25 +169,37 @@ static void check_indexed_sample(const struct sample *s, size_t which)
     }
 }
 
-static void check_large(size_t length, struct onnx_gate_answer expected)
+/* The system gives memory for a page of zeros when something is written there: of 2 GiB and more that is the first and the last. */
+static void check_large(const struct large *large, size_t which)
 {
-    struct onnx_gate_answer too_few = {ONNX_GATE_TOO_FEW_EXTRA, 0, 0, 0};
-    struct sample s = {NULL, length, BYTES(L), 0, expected};
-    struct lent lent;
-    uint8_t *model = (uint8_t *)calloc(length, 1);
+    struct sample s = {NULL, large->length, BYTES(L), large->cells, large->answer};
+    void *zeros = mmap(NULL, large->length, PROT_READ | PROT_WRITE, MAP_PRIVATE | MAP_ANONYMOUS | MAP_NORESERVE, -1, 0);
+    uint8_t *model = (uint8_t *)zeros;
+    struct onnx_gate_part last;
+    expect(zeros != MAP_FAILED, "a mapping, sample", which);
+    if (zeros == MAP_FAILED)
+        return;
+    memcpy(model, large->first, large->first_length);
+    memcpy(model + large->length - large->last_length, large->last, large->last_length);
     s.model = (const char *)model;
-    expect(model && is(plain(&s, &lent), expected), "large", length);
-    expect(model && is(indexed(&s, &lent, 0, 1), expected), "large, indexed", length);
-    s.cells = 1;
-    expect(model && is(indexed(&s, &lent, 3, 1), too_few), "large, too few extra cells", length);
-    free(model);
+    check_sample(&s, which);
+    check_indexed_sample(&s, which);
+    last = onnx_gate_show_name(model, large->length, large->length - 1, 1);
+    expect(last.start == large->length - 1 && last.length == 1, "the last byte, sample", which);
+    munmap(zeros, large->length);
+}
+
+/* whether all of this took less memory than one of the large models has bytes */
+static int took_little(void)
+{
+    struct rusage used;
+    return getrusage(RUSAGE_SELF, &used) == 0 && used.ru_maxrss < 500000;
 }
 
 int main(void)
 {
-    struct onnx_gate_answer bad_tag = {ONNX_GATE_BAD_TAG, 0, 0, 0}, too_large = {ONNX_GATE_MODEL_TOO_LARGE, 0, 0, 0};
-    size_t i;
-    for (i = 0; i < sizeof samples / sizeof samples[0]; i++) {
+    size_t i, count = sizeof samples / sizeof samples[0];
+    for (i = 0; i < count; i++) {
         check_sample(&samples[i], i);
         check_indexed_sample(&samples[i], i);
     }
@@ -166,8 +207,9 @@ int main(void)
         struct onnx_gate_part p = onnx_gate_show_name((const uint8_t *)M1, sizeof M1 - 1, parts[i].start, parts[i].length);
         expect(p.start == parts[i].part.start && p.length == parts[i].part.length, "part", i);
     }
-    check_large(67108864, bad_tag);
-    check_large(67108865, too_large);
+    for (i = 0; i < sizeof larges / sizeof larges[0]; i++)
+        check_large(&larges[i], count + i);
+    expect(took_little(), "memory, samples", count + i);
     printf("%d passed, %d failed\n", passed, failed);
     return failed != 0;
 }

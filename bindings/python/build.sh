@@ -1,6 +1,6 @@
 #!/bin/sh
-# Makes onnx_gate/libonnx_gate.so: ctypes loads shared objects, and the kit writes a static library. What is there already is
-# replaced only by what could be built.
+# Makes onnx_gate/libonnx_gate.so: ctypes loads shared objects, and the kit writes a static library. The count of what a model needs, in
+# bindings/c, goes into it as well. What is there already is replaced only by what could be built.
 set -eu
 unset CDPATH
 here=$(cd "$(dirname "$0")" && pwd -P)
@@ -12,5 +12,5 @@ if [ ! -f "$archive" ] || [ -n "$(find "$root/crates" "$root/crates.txt" -newer 
     touch "$archive"
 fi
 trap 'rm -f "$made.new"' EXIT
-gcc -shared -o "$made.new" -Wl,--no-undefined -Wl,--whole-archive "$archive" -Wl,--no-whole-archive
+gcc -shared -fPIC -O2 -o "$made.new" "$root/bindings/c/sizing.c" -Wl,--no-undefined -Wl,--whole-archive "$archive" -Wl,--no-whole-archive
 mv "$made.new" "$made"

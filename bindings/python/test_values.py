@@ -42,7 +42,7 @@ def liar(length):
 
 class Types(unittest.TestCase):
     def test_every_function_says_its_types(self):
-        modules = [onnx_gate, *(sys.modules[f"onnx_gate.{name}"] for name in ("_library", "_lists", "_sizing", "_values"))]
+        modules = [onnx_gate, *(sys.modules[f"onnx_gate.{name}"] for name in ("_files", "_library", "_lists", "_sizing", "_values"))]
         members = [member for module in modules for _, member in inspect.getmembers(module, inspect.isfunction)]
         functions = {member for member in members if member.__module__.startswith("onnx_gate")}
         self.assertGreater(len(functions), 12)

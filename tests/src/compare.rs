@@ -32,11 +32,14 @@ pub struct Tally {
 #[derive(Debug)]
 pub struct Failure {
     pub label: String,
-    pub model: Vec<u8>,
+    /// None where it is too long to be shown. A row makes it again.
+    pub model: Option<Vec<u8>>,
     pub list: Vec<u8>,
     pub cells: usize,
     pub told: String,
 }
+
+const SHOWN: usize = 1 << 20;
 
 pub type Outcome = Result<(), Box<Failure>>;
 
@@ -172,7 +175,8 @@ fn counts_agree(run: &Run, choices: &[u64], nodes: u64, names: u64) -> Result<()
 }
 
 pub(crate) fn failure(label: &str, model: &[u8], list: &[u8], cells: usize, told: String) -> Box<Failure> {
-    Box::new(Failure { label: label.into(), model: model.to_vec(), list: list.to_vec(), cells, told })
+    let model = (model.len() <= SHOWN).then(|| model.to_vec());
+    Box::new(Failure { label: label.into(), model, list: list.to_vec(), cells, told })
 }
 
 /// An acceptance needs its names as cells and no more; with too few cells the answer is 40, or a refusal that comes

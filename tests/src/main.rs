@@ -37,16 +37,35 @@ fn main() -> ExitCode {
         show(&failure);
         return ExitCode::FAILURE;
     }
-    let unmet = tally.never_met();
-    if settings.only.is_none() && !unmet.is_empty() {
-        println!("FAILED: never reached: {unmet:?} (few cases reach few numbers)");
-        return ExitCode::FAILURE;
-    }
-    if settings.only.is_none() && rare(&settings, &tally) {
+    if settings.only.is_none() && (unmet(&tally) || rare(&settings, &tally) || heavy()) {
         return ExitCode::FAILURE;
     }
     println!("ok: no disagreement");
     ExitCode::SUCCESS
+}
+
+/// Was a refusal number never met?
+fn unmet(tally: &Tally) -> bool {
+    let unmet = tally.never_met();
+    if !unmet.is_empty() {
+        println!("FAILED: never reached: {unmet:?} (few cases reach few numbers)");
+    }
+    !unmet.is_empty()
+}
+
+/// The most real memory that the run may take, in kB: models of 2 GiB are zeros that nobody touches.
+const MEMORY: u64 = 100_000;
+
+/// Did a model of the largest size become real memory, by what Linux says was the most?
+fn heavy() -> bool {
+    let status = std::fs::read_to_string("/proc/self/status").unwrap_or_default();
+    let peak = status.lines().find_map(|line| line.strip_prefix("VmHWM:")?.trim().strip_suffix(" kB")?.parse().ok());
+    let peak: u64 = peak.unwrap_or(u64::MAX);
+    println!("{peak} kB of memory at most");
+    if peak > MEMORY {
+        println!("FAILED: more than {MEMORY} kB of memory");
+    }
+    peak > MEMORY
 }
 
 /// Was a kind of call of the indexed check hardly made?
@@ -179,10 +198,8 @@ fn show(failure: &Failure) {
         cells => println!("  cells {cells}"),
     }
     println!("  list  {}", hex(&failure.list));
-    // A model of 64 MiB is told by its row's name.
-    if failure.model.len() <= 1 << 20 {
-        println!("  model {}", hex(&failure.model));
-    } else {
-        println!("  model of {} bytes, see the row", failure.model.len());
+    match &failure.model {
+        Some(model) => println!("  model {}", hex(model)),
+        None => println!("  the model is too long to be shown, see the row"),
     }
 }

@@ -5,6 +5,7 @@ pub mod damage;
 pub mod faults;
 pub mod lists;
 pub mod proto;
+pub mod sparse;
 pub mod valid;
 pub mod wild;
 

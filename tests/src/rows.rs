@@ -2,10 +2,13 @@
 
 mod by_hand;
 mod domains;
+mod large;
+mod lengths;
 mod padded;
 mod versions;
 
 pub use by_hand::by_hand;
+pub use large::large;
 
 use crate::checker::Verdict::{self, Accepted, Refused};
 use crate::models::lists::L;
@@ -43,7 +46,7 @@ fn accepted(nodes: u64, names: u64) -> Verdict {
     Accepted { nodes, names }
 }
 
-/// The table "Sample models under L" of document 01, all but the two rows of 64 MiB.
+/// The table "Sample models under L" of document 01, all but the two rows of the largest size (`large`).
 pub fn document() -> Vec<Row> {
     let nine_ff = "FF FF FF FF FF FF FF FF FF";
     let mut rows: Vec<Row> = [
@@ -95,33 +98,6 @@ pub fn nested(depth: usize) -> Vec<u8> {
     Tree::new(Message::Model).number(1, 8).tree(8, import).tree(7, graph).encode()
 }
 
-/// The largest model and one byte more. The first is all zeros in document 01; the other two are a sound model
-/// whose one initializer fills it up.
-pub fn large() -> Vec<Row> {
-    const MOST: usize = 67_108_864;
-    vec![
-        row("64 MiB of zeros", vec![0; MOST], &L, 0, refused(3, 0)),
-        row("64 MiB of zeros, no list", vec![0; MOST], &[], 2, refused(8, 0)),
-        row("64 MiB and a byte, of zeros", vec![0; MOST + 1], &L, 0, refused(7, 0)),
-        row("64 MiB and a byte, no list", vec![0; MOST + 1], &[], 3, refused(7, 0)),
-        row("64 MiB, sound", filled(MOST), &L, 2, accepted(0, 1)),
-        row("64 MiB and a byte, sound but for it", filled(MOST + 1), &L, 2, refused(7, 0)),
-    ]
-}
-
-/// A model of `length` bytes with one initializer, whose contents make up the length.
-fn filled(length: usize) -> Vec<u8> {
-    let with = |count: usize| {
-        let tensor = Tree::new(Message::Tensor).text(8, b"w").number(2, 1).text(9, vec![0xff; count]);
-        let graph = Tree::new(Message::Graph).text(2, b"g").tree(5, tensor);
-        let import = Tree::new(Message::OperatorSetId).number(2, 13);
-        Tree::new(Message::Model).number(1, 8).tree(8, import).tree(7, graph).encode()
-    };
-    // At this size each of the three lengths takes four bytes, so what is not contents does not change.
-    let rest = with(1 << 22).len() - (1 << 22);
-    with(length - rest)
-}
-
 #[cfg(test)]
 mod tests {
     use super::by_hand::in_graph;
@@ -129,7 +105,7 @@ mod tests {
     use crate::checker::check;
     use crate::runner::{run, End, Read};
 
-    fn holds(rows: Vec<Row>) {
+    fn holds(rows: impl IntoIterator<Item = Row>) {
         for row in rows {
             assert_eq!(check(&row.model, &row.list, row.cells), row.answer, "{}", row.name);
         }
@@ -141,7 +117,7 @@ mod tests {
     }
 
     #[test]
-    fn the_rows_of_64_mib() {
+    fn the_rows_of_the_largest_size() {
         holds(large());
     }
 
@@ -153,7 +129,7 @@ mod tests {
     /// Demand 3 on the rows: accepted models run to their end, and 23, 30 and 35 stop the run at their place.
     #[test]
     fn the_runner_on_all_rows() {
-        for row in document().into_iter().chain(by_hand()) {
+        for row in document().into_iter().chain(by_hand()).chain(large()) {
             let end = run(&row.model, &[]).end;
             match row.answer {
                 Accepted { .. } => assert_eq!(end, End::Reached, "{}", row.name),

@@ -15,17 +15,15 @@ import os
 from dataclasses import dataclass, field
 from operator import index
 
-from . import _library, _sizing
+from . import _files, _library, _sizing
 from ._lists import operators
-from ._sizing import LARGEST_MODEL, SMALL
+from ._sizing import LARGEST_MODEL
 from ._values import Bytes, copied, whole
 from .rules import RULES
 
 __version__ = "0.1.0"
-__all__ = ["LARGEST_MODEL", "RULES", "SMALL", "Answer", "CheckedFile", "check", "check_file", "operators", "show_name"]
+__all__ = ["LARGEST_MODEL", "RULES", "Answer", "CheckedFile", "check", "check_file", "operators", "show_name"]
 
-_FIRST = 65_536  # the most cells that a model starts with
-_GROWTH = 8  # the tries before the last have little more cells than it has, all together
 _MOST = 2**64 - 1  # of what crosses as 64 bits: ctypes would cut it
 
 
@@ -82,9 +80,10 @@ def check(
 
     What is not plain `bytes` is copied first: no change of it by others, and nothing that its class says, reaches the library.
 
-    Memory: under 10 MB for a model of up to `SMALL` bytes. For a larger one 20 bytes for each name and 16 for each initializer,
-    named node, attribute and import; where these are too many to count in Python, 2.3 times the model's size and 20 bytes for
-    each cell, of which there are eight times more, from 65,536 on, as long as the model has more names. Never above 601 MB.
+    Memory, beside the model: 16 bytes for each initializer, named node, attribute and import that it can have, and 20 for each name,
+    for up to 65,536 names at first and for eight times more as long as there are more. That is next to nothing for models that
+    people make, which tensors fill; a file that is made for it can ask for nine times its size, 19.3 GB at most. Where there is no memory
+    that is a MemoryError, and no answer.
     """
     model, operators = copied(model), copied(operators)
     seed = int.from_bytes(os.urandom(8), "little") if seed is None else whole(seed, "seed", 0, _MOST)
@@ -100,9 +99,9 @@ def check(
 def check_file(
     path: str | os.PathLike[str], operators: Bytes, cells: int | None = None, seed: int | None = None
 ) -> CheckedFile:
-    """As `check`, for the bytes of a file, which is read once and no further than the library has to see."""
-    with open(os.fspath(path), "rb") as file:
-        model = file.read(LARGEST_MODEL + 1)
+    """As `check`, for the bytes of a file, which is read once and no further than the library has to see. It is not mapped: what others
+    write to it afterwards does not reach `model`."""
+    model = _files.read(path)
     found = check(model, operators, cells, seed=seed)
     return CheckedFile(found.refusal, found.place, found.nodes, found.names, model if found else b"")
 
@@ -123,11 +122,10 @@ def _indexed(model: bytes, operators: bytes, cells: int, extra: int, seed: int) 
 
 def _sized(model: bytes, operators: bytes, limit: int, seed: int) -> Answer:
     """Starts with few cells where a model may have many names, and gives more after a 40: no other answer depends on them."""
-    names, lists = _sizing.needed(model)
-    most = min(len(model) // _sizing.LEAST_NAME, limit)
-    cells = min(names, most, _FIRST) if len(model) > SMALL else most
+    need, most = _library.needed(model), _sizing.most_cells(model, limit)
+    cells = min(need.names, most, _sizing.FIRST)
     while True:
-        answer = _indexed(model, operators, cells, 4 * cells + 2 + 4 * lists, seed)
+        answer = _indexed(model, operators, cells, 4 * cells + 2 + 4 * need.lists, seed)
         if answer.refusal != 40 or cells == most:
             return answer
-        cells = min(max(cells, _FIRST) * _GROWTH, most)
+        cells = _sizing.more_cells(cells, need.names, most)

@@ -13,6 +13,10 @@ class Part(ctypes.Structure):
     _fields_ = [("start", ctypes.c_uint64), ("length", ctypes.c_uint64)]
 
 
+class Need(ctypes.Structure):
+    _fields_ = [("names", ctypes.c_size_t), ("lists", ctypes.c_size_t)]
+
+
 def _path() -> Path:
     """An absolute path: what has no slash in it would be looked for wherever the system keeps libraries."""
     named = os.environ.get("ONNX_GATE_LIB")
@@ -27,7 +31,7 @@ def _load() -> ctypes.CDLL:
     path = _path()
     try:
         library = ctypes.CDLL(str(path))
-        library.onnx_gate_check_indexed, library.onnx_gate_show_name
+        library.onnx_gate_check_indexed, library.onnx_gate_show_name, library.onnx_gate_needed
     except (OSError, AttributeError) as error:
         raise ImportError(f"{path} is not the gate's library: run bindings/python/build.sh again ({error})") from None
     size, cells = ctypes.c_size_t, ctypes.POINTER(ctypes.c_uint32)
@@ -36,6 +40,8 @@ def _load() -> ctypes.CDLL:
     library.onnx_gate_check_indexed.restype = Answer4
     library.onnx_gate_show_name.argtypes = [ctypes.c_char_p, size, ctypes.c_uint64, ctypes.c_uint64]
     library.onnx_gate_show_name.restype = Part
+    library.onnx_gate_needed.argtypes = [ctypes.c_char_p, size]
+    library.onnx_gate_needed.restype = Need
     return library
 
 
@@ -50,3 +56,8 @@ def check_indexed(model: bytes, operators: bytes, cells: int, extra: int, seed: 
 
 def show_name(model: bytes, start: int, length: int) -> Part:
     return _library.onnx_gate_show_name(model, len(model), start, length)
+
+
+def needed(model: bytes) -> Need:
+    """Counted by bindings/c/sizing.c, which is not proved; no acceptance rests on it."""
+    return _library.onnx_gate_needed(model, len(model))

@@ -1,6 +1,6 @@
 //! Rows worked out by hand from document 01 and the readings of its open points.
 
-use super::{accepted, domains, hex, padded, refused, row, versions, Row, M0};
+use super::{accepted, domains, hex, lengths, padded, refused, row, versions, Row, M0};
 use crate::models::lists::L;
 
 /// A graph behind M0's header, so that its first byte stands at 8. It is under 128 bytes long.
@@ -28,6 +28,7 @@ pub fn by_hand() -> Vec<Row> {
     rows.extend(other_lists());
     rows.extend(versions::versions());
     rows.extend(domains::domains());
+    rows.extend(lengths::near());
     rows
 }
 

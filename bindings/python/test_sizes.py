@@ -1,0 +1,214 @@
+"""How many cells models are lent, what is read of files, and how much memory that takes. Run by `python3 -m unittest` in this folder."""
+
+import contextlib
+import os
+import random
+import subprocess
+import sys
+import tempfile
+import threading
+import unittest
+from pathlib import Path
+from unittest import mock
+
+import onnx_gate
+from onnx_gate import _files, _library, _sizing
+
+HERE = Path(__file__).resolve().parent
+LIST = onnx_gate.operators([("", 7, 21)])
+HEADER = bytes.fromhex("0808 4202100D")
+MOST = onnx_gate.LARGEST_MODEL
+
+
+def head(number, length):
+    """Of a field of bytes, with a length of five."""
+    return bytes([number << 3 | 2]) + bytes(length >> 7 * i & 0x7F | (0x80 if i < 4 else 0) for i in range(5))
+
+
+def part(number, contents):
+    return head(number, len(contents)) + contents
+
+
+def graph(contents):
+    return HEADER + part(7, b"\x12\x01g" + contents)
+
+
+def outputs(count, padding=0):
+    """A node with so many outputs, of nine bytes each from byte 24 on, and a doc string."""
+    return graph(part(1, b"\x22\x01X" + b"".join(b"\x12\x07v%06x" % i for i in range(count)))) + part(6, bytes(padding))
+
+
+def tensors(count, last=b""):
+    """So many initializers, of 13 bytes each from byte 15 on, and what the graph ends with."""
+    return graph(b"".join(b"\x2a\x0b\x42\x07w%06x\x10\x01" % i for i in range(count)) + last)
+
+
+def lent(model, operators=LIST, **bounds):
+    """The answer, and how many cells and extra cells the library was lent for it and before."""
+    with mock.patch.object(onnx_gate, "_indexed", wraps=onnx_gate._indexed) as indexed:
+        answer = onnx_gate.check(model, operators, **bounds)
+    return str(answer), [call.args[2:4] for call in indexed.call_args_list]
+
+
+def needed(model):
+    need = _library.needed(model)
+    return need.names, need.lists
+
+
+class Sizes(unittest.TestCase):
+    def test_as_many_as_are_counted(self):
+        for padding in 0, 5_000_000:
+            model = outputs(5000, padding)
+            self.assertEqual(lent(model), ("accepted nodes 1 names 5000", [(5000, 20_002)]))
+            self.assertEqual(lent(model, cells=4999), (f"refused 40 at {24 + 4999 * 9}", [(4999, 19_998)]))
+        self.assertEqual(lent(tensors(100)), ("accepted nodes 0 names 100", [(100, 400 + 2 + 400)]))
+        self.assertEqual(lent(b""), ("refused 10 at 0", [(0, 2)]))
+
+    def test_more_after_a_40(self):
+        answer, cells = lent(outputs(600_000))
+        self.assertEqual(answer, "accepted nodes 1 names 600000")
+        self.assertEqual(cells, [(count, 4 * count + 2) for count in (65_536, 524_288, 600_000)])
+        answer, cells = lent(outputs(600_000), cells=100_000)
+        self.assertEqual((answer, [count for count, _ in cells]), (f"refused 40 at {24 + 100_000 * 9}", [65_536, 100_000]))
+
+    def test_a_count_that_is_too_low(self):
+        for names, tries in (0, [0, 210_010]), (60_000, [60_000, 210_010]), (69_999, [65_536, 69_999, 210_010]):
+            with mock.patch.object(_library, "needed", return_value=_library.Need(names, 0)):
+                answer, cells = lent(outputs(70_000))
+            self.assertEqual((answer, [count for count, _ in cells]), ("accepted nodes 1 names 70000", tries))
+
+    def test_claims(self):
+        """A file that claims many names and is refused at the first gets room for few."""
+        inputs = graph(b"\x5a\x03\x0a\x01i" * 200_000)
+        self.assertEqual(lent(inputs), ("refused 24 at 15", [(65_536, 4 * 65_536 + 2)]))
+        attributes = graph(part(1, b"\x22\x01X" + b"\x2a\x00" * 200_000))
+        self.assertEqual(lent(attributes), ("refused 22 at 24", [(0, 2)]))
+
+    def test_lists_that_are_never_read(self):
+        """More than 65,536 names of lists get room only where the library comes so far as to read them."""
+        count = 70_000
+        self.assertEqual(lent(tensors(count))[1][0], (65_536, 4 * 65_536 + 2 + 4 * count))
+        twice, empty = b"\x12\x01g", b"\x00\x00\x00\x01\x01"
+        self.assertEqual(lent(tensors(count, twice)), (f"refused 5 at {15 + 13 * count}", [(0, 2)]))
+        self.assertEqual(lent(b"\x08\x03" + tensors(count)[2:]), ("refused 10 at 0", [(0, 2)]))
+        self.assertEqual(lent(tensors(count, twice), b""), ("refused 8 at 0", [(0, 2)]))
+        self.assertEqual(lent(tensors(count), empty)[0], "refused 14 at 2")
+        few = tensors(_sizing.FIRST, twice)
+        self.assertEqual(lent(few)[1], [(65_536, 4 * 65_536 + 2 + 4 * 65_536)])
+
+    def test_what_cannot_be_read(self):
+        for start in b"\x00", b"\x0b", b"\x3a\xff\xff\xff\xff\x7f", b"\xff" * 11, part(7, b"\x0a\x7f"):
+            model = start + tensors(100)
+            self.assertEqual(needed(model), (0, 0))
+            self.assertNotEqual(onnx_gate.check(model, LIST).refusal, 0)
+
+    def test_any_bytes_are_counted(self):
+        source, model, accepted = random.Random(3), outputs(20), 0
+        for _ in range(5000):
+            changed = bytearray(model[: source.randrange(len(model) + 1)] if source.randrange(2) else model)
+            for _ in range(source.randrange(4) if changed else 0):
+                changed[source.randrange(len(changed))] = source.randrange(256)
+            answer, (names, lists) = onnx_gate.check(changed, LIST, len(changed), 5 * len(changed)), needed(bytes(changed))
+            accepted += bool(answer)
+            self.assertLessEqual(answer.names, names)
+            self.assertLessEqual(max(3 * names, 7 * lists), len(changed))
+        self.assertGreater(accepted, 500)
+
+
+class Files(unittest.TestCase):
+    def setUp(self):
+        held = tempfile.TemporaryDirectory()
+        self.addCleanup(held.cleanup)
+        self.path = Path(held.name) / "model.onnx"
+
+    def test_around_the_limit(self):
+        with mock.patch.object(_files, "LARGEST_MODEL", 3_000_000), mock.patch.object(_files, "_PART", 7_000):
+            for size in 0, 1, 2_999_999, 3_000_000:
+                model = random.randbytes(size)
+                self.path.write_bytes(model)
+                self.assertEqual(_files.read(self.path), model)
+                self.assertEqual(self.piped(model), model)
+            for size in 3_000_001, 4_000_000:
+                self.path.write_bytes(b"x" * size)
+                self.assertEqual(_files.read(self.path), bytes(3_000_001))
+                self.assertEqual(self.piped(b"x" * size), b"x" * 3_000_001)
+
+    def piped(self, model):
+        out, into = os.pipe()
+
+        def write():
+            with contextlib.suppress(BrokenPipeError), open(into, "wb") as file:
+                file.write(model)
+
+        writing = threading.Thread(target=write)
+        writing.start()
+        read = _files.read(f"/dev/fd/{out}")
+        os.close(out)
+        writing.join()
+        return read
+
+    def test_a_file_that_grows(self):
+        self.path.write_bytes(outputs(500))
+        for size in 0, 1, 100:
+            with mock.patch.object(os, "fstat", return_value=mock.Mock(st_size=size)):
+                checked = onnx_gate.check_file(self.path, LIST)
+            self.assertEqual((str(checked), checked.model), ("accepted nodes 1 names 500", outputs(500)))
+
+    def test_a_file_that_changes_afterwards(self):
+        self.path.write_bytes(outputs(500))
+        checked = onnx_gate.check_file(self.path, LIST)
+        self.path.write_bytes(b"")
+        self.assertEqual(checked.model, outputs(500))
+
+
+# Prints an answer, and how many MB it took beside what Python has before.
+MEASURED = """
+import sys
+from pathlib import Path
+import onnx_gate
+def peak():
+    return int(Path("/proc/self/status").read_text().split("VmHWM:")[1].split()[0]) // 1000
+operators, before = onnx_gate.operators([("", 7, 21)]), peak()
+answer = {}
+print(answer, peak() - before)
+"""
+
+
+class Memory(unittest.TestCase):
+    def measured(self, call, **more):
+        code = MEASURED.replace("{}", call)
+        ran = subprocess.run([sys.executable, "-c", code], cwd=HERE, capture_output=True, check=True, **more)
+        *answer, used = ran.stdout.decode().split()
+        return " ".join(answer), int(used)
+
+    def test_the_largest_models(self):
+        for call, expected in (
+            (f"onnx_gate.check(bytes({MOST}), operators)", "refused 3 at 0"),
+            (f"onnx_gate.check(bytes({MOST + 1}), operators)", "refused 7 at 0"),
+            (f"onnx_gate.check(bytes({MOST + 1}), operators, 1, 3)", "refused 65 at 0"),
+            (f"onnx_gate.check(bytes({2**32 + 19}), b'')", "refused 7 at 0"),
+        ):
+            answer, used = self.measured(call)
+            self.assertEqual(answer, expected)
+            self.assertLess(used, 50, call)
+
+    def test_files(self):
+        """A file is in memory once, from a pipe too, and one that is too long not at all."""
+        model, sound = graph(part(5, b"\x42\x01w\x10\x01" + part(9, bytes(100_000_000)))), "accepted nodes 0 names 1"
+        with tempfile.TemporaryDirectory() as folder:
+            path = Path(folder) / "model.onnx"
+            path.write_bytes(model)
+            self.from_file(path, sound, 95, 120)
+            self.from_file("/dev/stdin", sound, 95, 120, input=model)
+            for length in MOST + 1, 2**40:
+                os.truncate(path, length)
+                self.from_file(path, "refused 7 at 0", 0, 20)
+
+    def from_file(self, path, expected, least, most, **more):
+        answer, used = self.measured(f"onnx_gate.check_file({str(path)!r}, operators)", **more)
+        self.assertEqual(answer, expected)
+        self.assertTrue(least <= used <= most, f"{used} MB for {path}")
+
+
+if __name__ == "__main__":
+    unittest.main()
