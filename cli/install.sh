@@ -71,13 +71,17 @@ version=$("$command" --version)
 version=${version#onnx-gate }
 soname=libonnx_gate.so.${version%%.*}
 modules=$(python_folder)
+"${CC:-gcc}" -O2 -fPIC -I"$root/bindings/c" -c "$root/bindings/c/sizing.c" -o "$work/sizing.o"
+cp -- "$archive" "$work/libonnx_gate.a"
+ar rs "$work/libonnx_gate.a" "$work/sizing.o"
 "${CC:-gcc}" -shared -Wl,-soname,"$soname" -Wl,-z,defs -o "$work/$soname" \
-    -Wl,--whole-archive "$archive" -Wl,--no-whole-archive
+    -Wl,--whole-archive "$work/libonnx_gate.a" -Wl,--no-whole-archive
 pkg_config >"$work/onnx_gate.pc"
 
 put 755 "$command" bin/onnx-gate
 put 644 "$root/bindings/c/onnx_gate.h" include/onnx_gate.h
-put 644 "$archive" lib/libonnx_gate.a
+put 644 "$root/bindings/c/onnx_gate_sizing.h" include/onnx_gate_sizing.h
+put 644 "$work/libonnx_gate.a" lib/libonnx_gate.a
 put 755 "$work/$soname" "lib/$soname"
 ln -sfT "$soname" "$prefix/lib/libonnx_gate.so"
 put 644 "$work/onnx_gate.pc" lib/pkgconfig/onnx_gate.pc
