@@ -1,4 +1,5 @@
 pub mod ScopeLaws
+pub mod ClearLaws
 pub mod SplitLaws
 pub mod RecallLaws
 pub mod StepLaws

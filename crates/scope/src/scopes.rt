@@ -1,7 +1,8 @@
 // The scope of the second walk, in cells that the caller lends: a cell holds the place of the field that holds a name, and the
 // first `used` cells are in use. What they mean stands in specs/Scope.antt.
 ghost use mathlib.Core.Path.{_≡_};
-ghost use Prim.Native.Nat.{ℕ, max};
+ghost use Prim.Native.Nat.{ℕ, _≤_, _<_, max};
+ghost use mathlib.Core.Bool.{true};
 ghost use mathlib.Core.List.{List};
 ghost use lib.ListN.{length, getD, replicate};
 ghost use Rattle.varint.specs.Outcome.{refused};
@@ -13,6 +14,9 @@ use varint::Refusal;
 use varint::between;
 use wire::Cursor;
 use wire::FieldAnswer;
+
+// How many cells a page of memory has.
+const PAGE: usize = 1024;
 
 // How far the second walk has come: how many cells are used, the nodes so far, and the most names visible together so far.
 pub struct Progress {
@@ -50,13 +54,66 @@ pub(crate) fn cell_at(cells: &[u32], i: usize) -> usize
     0
 }
 
-pub fn clear(cells: &mut [u32])
+fn still_zero(zero: bool, cell: u32) -> bool
+    ensures { λ r. ⌜ (r ≡ true → (zero ≡ true) × (cell ≡ 0)) ⌝ }
+{
+    if cell == 0 {
+        return zero;
+    }
+    false
+}
+
+// With no way out before the end, so that the machine compares many at once.
+fn all_zero(cells: &[u32]) -> bool
+    ensures { λ r. ⌜ (r ≡ true → now (cells .entry) ≡ replicate (length (now (cells .entry))) 0) ⌝ }
+{
+    let mut zero = true;
+    let mut i = 0;
+    while i < cells.len() {
+        zero = still_zero(zero, cells[i]);
+        i += 1;
+    }
+    zero
+}
+
+fn write_zeros(cells: &mut [u32])
     ensures { λ _. ⌜ now (cells .exit) ≡ replicate (length (now (cells .entry))) 0 ⌝ }
 {
     let mut i = 0;
     while i < cells.len() {
         cells[i] = 0;
         i += 1;
+    }
+}
+
+// Zeros are not written over zeros: memory that the system has zeroed becomes real only where it is written.
+fn clear_part(cells: &mut [u32])
+    ensures { λ _. ⌜ now (cells .exit) ≡ replicate (length (now (cells .entry))) 0 ⌝ }
+{
+    if all_zero(cells) {
+        return;
+    }
+    write_zeros(cells);
+}
+
+fn part_end(at: usize, end: usize) -> usize
+    requires { ⌜ at < end ⌝ }
+    ensures { λ r. ⌜ (at < r) × (r ≤ end) ⌝ }
+{
+    if end - at < PAGE {
+        return end;
+    }
+    at + PAGE
+}
+
+pub fn clear(cells: &mut [u32])
+    ensures { λ _. ⌜ now (cells .exit) ≡ replicate (length (now (cells .entry))) 0 ⌝ }
+{
+    let mut i = 0;
+    while i < cells.len() {
+        let end = part_end(i, cells.len());
+        clear_part(&mut cells[i..end]);
+        i = end;
     }
 }
 
