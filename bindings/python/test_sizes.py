@@ -115,6 +115,33 @@ class Sizes(unittest.TestCase):
         self.assertGreater(accepted, 500)
 
 
+class Mapped(unittest.TestCase):
+    """More cells than are lent as an array."""
+
+    def test_answers(self):
+        with mock.patch.object(_library, "_FEW", 0):
+            for count in 1, 100, 5000:
+                self.assertEqual(str(onnx_gate.check(outputs(count), LIST)), f"accepted nodes 1 names {count}")
+                self.assertEqual(str(onnx_gate.check(outputs(count), LIST, count - 1)), f"refused 40 at {15 + 9 * count}")
+            self.assertEqual(str(onnx_gate.check(outputs(3), LIST, 3, 11)), "refused 65 at 0")
+            self.assertEqual(str(onnx_gate.check(outputs(3), LIST, 0, 1)), "refused 40 at 24")
+
+    def test_no_memory(self):
+        for cells, extra in (2**48, 0), (0, 2**60), (2**61, 2**63), (2**63, 0), (2**64 - 1, 2**64 - 1):
+            with self.assertRaisesRegex(MemoryError, f"no memory for {cells + extra} cells"):
+                onnx_gate.check(outputs(1), LIST, cells, extra)
+
+    def test_they_end_with_the_call(self):
+        """Also where it is interrupted, and not only when garbage is collected."""
+        rooms, mapped, many = [], _library._mapped, (1, _library._FEW)
+        with mock.patch.object(_library, "_mapped", lambda size: rooms.append(mapped(size)) or rooms[-1]):
+            self.assertTrue(onnx_gate.check(outputs(1), LIST, *many))
+            with mock.patch.object(_library, "_library") as library, self.assertRaises(KeyboardInterrupt):
+                library.onnx_gate_check_indexed.side_effect = KeyboardInterrupt
+                onnx_gate.check(outputs(1), LIST, *many)
+        self.assertEqual([room.closed for room in rooms], [True, True])
+
+
 class Files(unittest.TestCase):
     def setUp(self):
         held = tempfile.TemporaryDirectory()
@@ -203,6 +230,19 @@ class Memory(unittest.TestCase):
             for length in MOST + 1, 2**40:
                 os.truncate(path, length)
                 self.from_file(path, "refused 7 at 0", 0, 20)
+
+    def test_room_that_is_not_used(self):
+        """Millions of names of lists get room, 16 bytes each. It is real only where one is kept, and here the second is refused."""
+        attributes = b"\x12\x01y\x22\x01X" + b"\x2a\x06\x0a\x01a\xa0\x01\x01" * 7_500_000
+        for expected, contents in (
+            ("refused 31 at 37", part(1, attributes)),
+            ("refused 23 at 24", b"\x2a\x05\x42\x01w\x10\x01" * 8_570_000),
+            ("refused 29 at 29", b"\x0a\x08\x12\x00\x1a\x01n\x22\x01X" * 6_000_000),
+        ):
+            with tempfile.TemporaryDirectory() as folder:
+                path = Path(folder) / "model.onnx"
+                path.write_bytes(graph(contents))
+                self.from_file(path, expected, 55, 68)
 
     def from_file(self, path, expected, least, most, **more):
         answer, used = self.measured(f"onnx_gate.check_file({str(path)!r}, operators)", **more)

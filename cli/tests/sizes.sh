@@ -17,6 +17,7 @@ test_sizes() {
         echo "no leases on files in $work: what is mapped is not tried"
     fi
     copies
+    repeated_names
     same "lengths" "$(script lengths "$gate" "$root/examples")" "as expected"
     largest_numbers
 }
@@ -113,6 +114,19 @@ copies() {
     run python3 "$root/cli/tests/peak.py" "$most" "$gate" pass accepted.onnx 2>"$work/err" | cmp - accepted.onnx
     same "pass" "${PIPESTATUS[*]}: $(cat "$work/err")" "0 0: accepted.onnx: accepted nodes 1 names 2"
     rm accepted.onnx
+}
+
+# Room for millions of names is real only where one is kept: 10 MB beside the model, mapped or copied.
+repeated_names() {
+    local file answer most=$((70000000 / 1024))
+    script repeated "$root/examples" . >expected
+    same "models that repeat a name" "$(wc -l <expected)" 3
+    while IFS=: read -r file answer; do
+        expect 1 "$file:$answer"$'\n*' '' python3 "$root/cli/tests/peak.py" "$most" "$gate" check "$file"
+        run python3 "$root/cli/tests/peak.py" "$most" "$gate" check - <"$file" >"$work/out" 2>"$work/err"
+        same "a copy of $file" "$?: $(head -1 "$work/out")$(cat "$work/err")" "1: -:$answer"
+    done <expected
+    rm ./*.onnx
 }
 
 largest_numbers() {

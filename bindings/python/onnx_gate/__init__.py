@@ -82,8 +82,8 @@ def check(
 
     Memory, beside the model: 16 bytes for each initializer, named node, attribute and import that it can have, and 20 for each name,
     for up to 65,536 names at first and for eight times more as long as there are more. That is next to nothing for models that
-    people make, which tensors fill; a file that is made for it can ask for nine times its size, 19.3 GB at most. Where there is no memory
-    that is a MemoryError, and no answer.
+    people make, which tensors fill; a file that is made for it can ask for nine times its size, 19.3 GB at most. Of more than 4 MiB only
+    what a name is kept in is real. Where there is no memory that is a MemoryError, and no answer.
     """
     model, operators = copied(model), copied(operators)
     seed = int.from_bytes(os.urandom(8), "little") if seed is None else whole(seed, "seed", 0, _MOST)

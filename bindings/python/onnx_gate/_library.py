@@ -1,8 +1,11 @@
 """The shared object: where it is, and its functions."""
 
 import ctypes
+import mmap
 import os
 from pathlib import Path
+
+_FEW = 1 << 20  # cells, of 4 MiB: an array for them is quicker than a mapping
 
 
 class Answer4(ctypes.Structure):
@@ -34,7 +37,7 @@ def _load() -> ctypes.CDLL:
         library.onnx_gate_check_indexed, library.onnx_gate_show_name, library.onnx_gate_needed
     except (OSError, AttributeError) as error:
         raise ImportError(f"{path} is not the gate's library: run bindings/python/build.sh again ({error})") from None
-    size, cells = ctypes.c_size_t, ctypes.POINTER(ctypes.c_uint32)
+    size, cells = ctypes.c_size_t, ctypes.c_void_p  # an array or an address
     lent = [ctypes.c_char_p, size, ctypes.c_char_p, size, cells, size, cells, size]
     library.onnx_gate_check_indexed.argtypes = [*lent, ctypes.c_uint64]
     library.onnx_gate_check_indexed.restype = Answer4
@@ -50,8 +53,22 @@ _library = _load()
 
 def check_indexed(model: bytes, operators: bytes, cells: int, extra: int, seed: int) -> Answer4:
     """The indexed check in so many cells and extra cells. `model` and `operators` are bytes and of no class made from it."""
-    own, more = (ctypes.c_uint32 * cells)(), (ctypes.c_uint32 * extra)()  # zeroed
-    return _library.onnx_gate_check_indexed(model, len(model), operators, len(operators), own, cells, more, extra, seed)
+    lent = model, len(model), operators, len(operators)
+    if cells + extra <= _FEW:
+        own, more = (ctypes.c_uint32 * cells)(), (ctypes.c_uint32 * extra)()  # zeroed
+        return _library.onnx_gate_check_indexed(*lent, own, cells, more, extra, seed)
+    with _mapped(4 * (cells + extra)) as room:
+        # a number, and no array in the room: whoever holds one, also in a traceback, keeps the room from being closed
+        start = ctypes.addressof(ctypes.c_uint32.from_buffer(room))
+        return _library.onnx_gate_check_indexed(*lent, start, cells, start + 4 * cells, extra, seed)
+
+
+def _mapped(size: int) -> mmap.mmap:
+    """Bytes that the system zeroes: what is not written is not real. They are private, as to read shared ones makes them real."""
+    try:
+        return mmap.mmap(-1, size, mmap.MAP_PRIVATE | mmap.MAP_ANONYMOUS)
+    except (OSError, OverflowError):
+        raise MemoryError(f"there is no memory for {size // 4} cells") from None
 
 
 def show_name(model: bytes, start: int, length: int) -> Part:

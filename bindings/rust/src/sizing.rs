@@ -1,12 +1,13 @@
 //! The check with cells of its own: how many, and under a seed that nobody knows.
 use crate::skim::{skim, Need};
 use crate::{check_indexed, check_with, operators, Accepted, Refusal, LARGEST_MODEL};
+use std::alloc::{alloc_zeroed, Layout};
 use std::fmt;
 use std::hash::{BuildHasher, Hasher, RandomState};
 
 /// The most bytes that cells and extra cells take together, where nobody says otherwise. It is a bound and not a
-/// request: more cells are asked for as the answer 40 calls for them. No model of `LARGEST_MODEL` bytes or less needs
-/// more than 19.3 GB, so that none is refused for it.
+/// request: more cells are asked for as the answer 40 calls for them, and are real memory only where a name is kept. No
+/// model of `LARGEST_MODEL` bytes or less needs more than 19.3 GB, so that none is refused for it.
 pub const MEMORY: usize = 18 << 30;
 
 const CELL: usize = size_of::<u32>();
@@ -43,7 +44,8 @@ pub struct Options {
     /// The most names that may be visible at once. A model with more is refused with 40.
     pub cells: usize,
     /// The most bytes of cells and extra cells together, 20 for each name. A model with more names is refused with 40;
-    /// one with long lists of named things, 16 for each, takes longer where they do not fit.
+    /// one with long lists of named things, 16 for each, takes longer where they do not fit. Room that stays unused
+    /// counts here, though it is not real.
     pub memory: usize,
     /// How names are spread over the index: no answer depends on it. Without one it is drawn from the system.
     pub seed: Option<u64>,
@@ -147,11 +149,20 @@ fn next(cells: usize, counted: usize, most: usize) -> Option<usize> {
     Some(goal.min(cells.max(FIRST).saturating_mul(GROWTH))).filter(|n| *n > cells)
 }
 
+/// Zeroed by the system: what is not written is not real, and the library writes only where it keeps a name.
 fn zeroed(count: usize) -> Result<Vec<u32>, NoMemory> {
-    let mut cells = Vec::new();
-    cells.try_reserve_exact(count).map_err(|_| NoMemory { cells: count })?;
-    cells.resize(count, 0);
-    Ok(cells)
+    let layout = Layout::array::<u32>(count).map_err(|_| NoMemory { cells: count })?;
+    if count == 0 {
+        return Ok(Vec::new());
+    }
+    // SAFETY: the layout is of one byte or more.
+    let cells = unsafe { alloc_zeroed(layout) }.cast::<u32>();
+    if cells.is_null() {
+        return Err(NoMemory { cells: count });
+    }
+    // SAFETY: the pointer is of the global allocator, with the very layout that a `Vec<u32>` of this capacity is freed
+    // with, and nobody else has it; all its `count` numbers are initialized, to zero.
+    Ok(unsafe { Vec::from_raw_parts(cells, count, count) })
 }
 
 /// A number that whoever made the model cannot know. `RandomState` has its keys from the system; unlike a read of

@@ -79,8 +79,22 @@ fn memory_is_kept() {
         assert_eq!(under(memory(20 * count - 1), &model), full);
         assert_eq!(under(memory(0), &model), ("refused 40 at 24".into(), 0));
     }
-    assert_eq!(zeroed(usize::MAX / CELL), Err(NoMemory { cells: usize::MAX / CELL }));
-    assert_eq!(zeroed(3), Ok(vec![0; 3]));
+}
+
+#[test]
+fn zeroed_cells() {
+    for count in [0, 1, 3, 1000, 1_000_000] {
+        let mut cells = zeroed(count).unwrap();
+        assert!(cells.len() == count && cells.iter().all(|cell| *cell == 0), "{count}");
+        // memory that was used before is zeroed too
+        cells.fill(u32::MAX);
+        drop(cells);
+        assert_eq!(zeroed(count).unwrap().iter().find(|cell| **cell != 0), None, "{count}");
+    }
+    // what no system has, and what no allocation may be asked for
+    for count in [isize::MAX as usize / CELL, isize::MAX as usize / CELL + 1, usize::MAX / CELL + 1, usize::MAX] {
+        assert_eq!(zeroed(count), Err(NoMemory { cells: count }));
+    }
 }
 
 #[test]
