@@ -6,6 +6,6 @@ mod archive;
 fn main() {
     println!("cargo:rerun-if-changed=build.rs");
     if std::env::var_os("CARGO_FEATURE_LIBRARY").is_some() {
-        archive::link(concat!(env!("CARGO_MANIFEST_DIR"), "/..").as_ref());
+        archive::link("..");
     }
 }

@@ -2,10 +2,12 @@
 use std::path::{Path, PathBuf};
 use std::time::SystemTime;
 
-/// Tells cargo what to link, or ends with why nothing can be. `root` is the repository's folder.
-pub fn link(root: &Path) {
+/// Tells cargo what to link, or ends with why nothing can be. `above` is the repository's folder as the package sees it. Where
+/// that is, is asked now: a build script that was copied with its folder would still name the old one.
+pub fn link(above: &str) {
     println!("cargo:rerun-if-env-changed=GATE_LIB_DIR");
-    match named().unwrap_or_else(|| built(root)) {
+    let root = PathBuf::from(std::env::var_os("CARGO_MANIFEST_DIR").expect("cargo sets it")).join(above);
+    match named().unwrap_or_else(|| built(&root)) {
         Ok(folder) => {
             println!("cargo:rerun-if-changed={}", folder.join("libgate_c.a").display());
             println!("cargo:rustc-link-search=native={}", folder.display());

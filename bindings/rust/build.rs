@@ -2,5 +2,5 @@
 mod archive;
 
 fn main() {
-    archive::link(concat!(env!("CARGO_MANIFEST_DIR"), "/../..").as_ref());
+    archive::link("../..");
 }
