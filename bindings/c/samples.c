@@ -1,10 +1,9 @@
 /* Document 01's sample models through both checks of onnx_gate.h, and the name service. Prints what fails, and how many passed. */
 #define _DEFAULT_SOURCE /* MAP_ANONYMOUS, under -std=c99 */
+#include "expect.h"
 #include "onnx_gate.h"
 
-#include <stdio.h>
 #include <string.h>
-#include <sys/mman.h>
 #include <sys/resource.h>
 
 #define L "\x00\x00\x00\x0B\x01\x00\x08\x00\x00\x00\x07\x00\x00\x00\x15"
@@ -84,18 +83,6 @@ static const struct {
     {UINT64_MAX, 1, {0, 0}},
 };
 
-static int passed, failed;
-
-static void expect(int holds, const char *what, size_t which)
-{
-    if (holds) {
-        passed++;
-        return;
-    }
-    failed++;
-    printf("failed: %s %lu\n", what, (unsigned long)which);
-}
-
 static int is(struct onnx_gate_answer a, struct onnx_gate_answer b)
 {
     return a.refusal == b.refusal && a.place == b.place && a.nodes == b.nodes && a.names == b.names;
@@ -169,15 +156,14 @@ static void check_indexed_sample(const struct sample *s, size_t which)
     }
 }
 
-/* The system gives memory for a page of zeros when something is written there: of 2 GiB and more that is the first and the last. */
+/* Of 2 GiB and more only the first and the last page are written. */
 static void check_large(const struct large *large, size_t which)
 {
     struct sample s = {NULL, large->length, BYTES(L), large->cells, large->answer};
-    void *zeros = mmap(NULL, large->length, PROT_READ | PROT_WRITE, MAP_PRIVATE | MAP_ANONYMOUS | MAP_NORESERVE, -1, 0);
-    uint8_t *model = (uint8_t *)zeros;
+    uint8_t *model = zeros(large->length);
     struct onnx_gate_part last;
-    expect(zeros != MAP_FAILED, "a mapping, sample", which);
-    if (zeros == MAP_FAILED)
+    expect(model != NULL, "a mapping, sample", which);
+    if (model == NULL)
         return;
     memcpy(model, large->first, large->first_length);
     memcpy(model + large->length - large->last_length, large->last, large->last_length);
@@ -186,7 +172,7 @@ static void check_large(const struct large *large, size_t which)
     check_indexed_sample(&s, which);
     last = onnx_gate_show_name(model, large->length, large->length - 1, 1);
     expect(last.start == large->length - 1 && last.length == 1, "the last byte, sample", which);
-    munmap(zeros, large->length);
+    munmap(model, large->length);
 }
 
 /* whether all of this took less memory than one of the large models has bytes */
@@ -210,6 +196,5 @@ int main(void)
     for (i = 0; i < sizeof larges / sizeof larges[0]; i++)
         check_large(&larges[i], count + i);
     expect(took_little(), "memory, samples", count + i);
-    printf("%d passed, %d failed\n", passed, failed);
-    return failed != 0;
+    return told();
 }

@@ -1,11 +1,10 @@
 /* What onnx_gate_needed counts, and that it survives any bytes. Prints what fails, and how many passed. */
 #define _DEFAULT_SOURCE /* MAP_ANONYMOUS, under -std=c99 */
+#include "expect.h"
 #include "onnx_gate.h"
 #include "onnx_gate_sizing.h"
 
-#include <stdio.h>
 #include <string.h>
-#include <sys/mman.h>
 
 #define PAGE 4096
 #define MOST 2147483647
@@ -60,24 +59,6 @@ static const struct {
     {BYTES(ENTRY "\x42\xF5\xFF\xFF\xFF\xFF\xFF\xFF\xFF\xFF\x01" "a"), {0, 0}}, /* 2^64 - 11, back to its tag */
     {BYTES("\x3A\x02\x0A\x05" ENTRY), {0, 0}},
 };
-
-static int passed, failed;
-
-static void expect(int holds, const char *what, size_t which)
-{
-    if (holds) {
-        passed++;
-        return;
-    }
-    failed++;
-    printf("failed: %s %lu\n", what, (unsigned long)which);
-}
-
-static uint8_t *zeros(size_t length)
-{
-    void *at = mmap(NULL, length, PROT_READ | PROT_WRITE, MAP_PRIVATE | MAP_ANONYMOUS | MAP_NORESERVE, -1, 0);
-    return at == MAP_FAILED ? NULL : (uint8_t *)at;
-}
 
 /* The bytes where nothing can be read behind them; `page` has two pages, of which the second is closed. */
 static uint8_t *at_the_edge(uint8_t *page, const void *bytes, size_t length)
@@ -201,6 +182,5 @@ int main(void)
     check_depth(large);
     check_long_lists(large);
     check_large(large);
-    printf("%d passed, %d failed\n", passed, failed);
-    return failed != 0;
+    return told();
 }
