@@ -1,4 +1,4 @@
--- Document 01, "Refusal numbers": the table, in its order.
+-- Document 01, "Refusal numbers": the table, in its order; 9 is of document 02, Req 07, and stands where it is tested.
 use Prim.Native.Nat.{ℕ}
 use mathlib.Core.List.{List, [], _∷_}
 
@@ -8,6 +8,7 @@ refusals =
     ∷ 8  -- operator list unsound
     ∷ 1  -- varint, value or length runs past its message
     ∷ 2  -- tenth varint byte above 1
+    ∷ 9  -- a padded tag, value or length
     ∷ 3  -- bad tag
     ∷ 4  -- wrong wire type for a named field
     ∷ 5  -- a single field repeated

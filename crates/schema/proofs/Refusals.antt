@@ -1,4 +1,4 @@
--- The first walk refuses with 1 to 6, inside the message that it walks.
+-- The first walk refuses with 1 to 6 and 9, inside the message that it walks.
 use Prim.Native.Nat.{ℕ, zero, suc, _≤_, _<_}
 use native.Mathlib.Omega.{arith}
 use mathlib.Core.Path.{_≡_}
@@ -20,7 +20,7 @@ use Rattle.schema.specs.Rows.{rowOf}
 use Rattle.schema.specs.FirstWalk.{kindOf, deeper, contents, turn, walk, walked, firstWalk}
 
 abbrev pub FirstWalk·refusals : List ℕ
-FirstWalk·refusals = 1 ∷ 2 ∷ 3 ∷ 4 ∷ 5 ∷ 6 ∷ []
+FirstWalk·refusals = 1 ∷ 2 ∷ 9 ∷ 3 ∷ 4 ∷ 5 ∷ 6 ∷ []
 
 abbrev pub Before : ℕ → Refusal → Type 0
 Before end = Among FirstWalk·refusals (λ p. p < end)

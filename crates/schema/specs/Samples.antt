@@ -1,7 +1,7 @@
 -- The first walk on both sides of each of its rules, evaluated.
-use Prim.Native.Nat.{ℕ, zero, suc, _+_}
+use Prim.Native.Nat.{ℕ, zero, suc, _+_, _*_}
 use mathlib.Core.Path.{_≡_, refl}
-use mathlib.Core.List.{List, [], _∷_, map}
+use mathlib.Core.List.{List, [], _∷_, _++_, map, flatMap}
 use lib.ListN.{length}
 use Rattle.varint.specs.Outcome.{pass, Rule, refused}
 use Rattle.varint.specs.Bytes.{Bytes}
@@ -16,12 +16,16 @@ nested (suc n) = let g = nested n in 0x0A ∷ (length g + 4) ∷ 0x2A ∷ (lengt
 graphs : ℕ → Bytes
 graphs n = let g = nested n in 0x3A ∷ length g ∷ g
 
+-- A message inside others: on the way to it each tag, and the length of what its field holds.
+inside : (way : Bytes) → Bytes → Bytes
+inside [] m = m
+inside (t ∷ way) m = let inner = inside way m in t ∷ length inner ∷ inner
+
 walks : List (Bytes × Rule)
 walks =
     ([], pass tt)
-    ∷ (hex "08 88 80 80 80 80 80 80 80 80 00", pass tt)  -- padded to ten bytes
+    ∷ (hex "08 88 80 80 80 80 80 80 80 80 01", pass tt)
     ∷ (hex "08 80 80 80 80 80 80 80 80 80 80", refused 2 0)
-    ∷ (hex "88 80 80 80 80 80 80 80 80 00 08", pass tt)  -- a padded tag
     ∷ (hex "88 80 80 80 80 80 80 80 80 81 08", refused 2 0)
     ∷ (hex "80 80 80 80 10 00", refused 3 0)  -- 2^32
     ∷ (hex "F8 FF FF FF 0F 00", pass tt)  -- the largest field number
@@ -42,6 +46,103 @@ walks =
     ∷ (graphs 8, refused 6 48)
     ∷ []
 
-walks-hold : map (λ s. firstWalk (s .0)) walks ≡ map (λ s. s .1) walks
-unfolding walks nested graphs Notation·computes FirstWalk·computes
+-- The way to a message of each kind, and to a graph of each depth up to 8.
+ways : List Bytes
+ways =
+    []
+    ∷ hex "42"  -- OperatorSetId
+    ∷ hex "3A"  -- Graph
+    ∷ hex "3A 0A"  -- Node
+    ∷ hex "3A 0A 2A"  -- Attribute
+    ∷ hex "3A 2A"  -- Tensor
+    ∷ hex "3A 5A"  -- ValueInfo
+    ∷ hex "3A 5A 12"  -- Type
+    ∷ hex "3A 5A 12 0A"  -- Type.Tensor
+    ∷ hex "3A 5A 12 0A 12"  -- Shape
+    ∷ hex "3A 5A 12 0A 12 0A"  -- Dimension
+    ∷ hex "3A 0A 2A 32"
+    ∷ hex "3A 0A 2A 5A 0A 2A 32"
+    ∷ hex "3A 0A 2A 32 0A 2A 5A 0A 2A 32"
+    ∷ hex "3A 0A 2A 32 0A 2A 32 0A 2A 32 0A 2A 32"
+    ∷ hex "3A 0A 2A 32 0A 2A 32 0A 2A 32 0A 2A 32 0A 2A 32"
+    ∷ hex "3A 0A 2A 32 0A 2A 32 0A 2A 32 0A 2A 32 0A 2A 32 0A 2A 32"
+    ∷ hex "3A 0A 2A 32 0A 2A 32 0A 2A 32 0A 2A 32 0A 2A 32 0A 2A 32 0A 2A 32"
+    ∷ []
+
+-- Fields that no row names: a padded tag of each wire type, a padded value, a padded length.
+unknown : List Bytes
+unknown =
+    hex "A0 86 00 00"
+    ∷ hex "A1 86 80 00 01 02 03 04 05 06 07 08"
+    ∷ hex "A2 86 80 80 80 80 80 80 80 00 00"
+    ∷ hex "A5 86 00 01 02 03 04"
+    ∷ hex "A0 06 81 00"
+    ∷ hex "A2 06 80 80 00"
+    ∷ []
+
+-- Document 02, Req 07: each position in each message, and the rules beside it.
+padded : List (Bytes × Rule)
+padded =
+    flatMap (λ way. map (λ field. (inside way field, refused 9 (2 * length way))) unknown) ways
+    ++ ((hex "88 00 08", refused 9 0)  -- ir_version: tag, value
+    ∷ (hex "08 88 00", refused 9 0)
+    ∷ (hex "08 80 80 80 80 80 80 80 80 80 00", refused 9 0)  -- of ten bytes
+    ∷ (hex "08 08 3A 80 00", refused 9 2)  -- graph: length
+    ∷ (hex "CA 01 80 00", refused 9 0)  -- functions: length
+    ∷ (hex "CA 01 02 80 00", pass tt)  -- and what it holds is not read
+    ∷ (inside (hex "42") (hex "8A 00 00"), refused 9 2)  -- domain: tag, length
+    ∷ (inside (hex "42") (hex "0A 80 00"), refused 9 2)
+    ∷ (inside (hex "42") (hex "10 8D 00"), refused 9 2)  -- version: value
+    ∷ (inside (hex "3A") (hex "92 00 01 67"), refused 9 2)  -- a graph's name: tag, length
+    ∷ (inside (hex "3A") (hex "12 81 00 67"), refused 9 2)
+    ∷ (inside (hex "3A 0A") (hex "A2 00 01 58"), refused 9 4)  -- op_type: tag, length
+    ∷ (inside (hex "3A 0A") (hex "22 81 00 58"), refused 9 4)
+    ∷ (inside (hex "3A 0A 2A") (hex "A0 81 00 02"), refused 9 6)  -- type: tag, value
+    ∷ (inside (hex "3A 0A 2A") (hex "A0 01 82 00"), refused 9 6)
+    ∷ (inside (hex "3A 0A 2A") (hex "95 00 01 02 03 04"), refused 9 6)  -- f: tag
+    ∷ (inside (hex "3A 0A 2A") (hex "40 80 00"), refused 9 6)  -- ints: value, length, and contents, which are not read
+    ∷ (inside (hex "3A 0A 2A") (hex "42 82 00 80 00"), refused 9 6)
+    ∷ (inside (hex "3A 0A 2A") (hex "42 02 80 00"), pass tt)
+    ∷ (inside (hex "3A 0A 2A") (hex "32 80 00"), refused 9 6)  -- g: length
+    ∷ (inside (hex "3A 2A") (hex "90 00 01"), refused 9 4)  -- data_type: tag, value
+    ∷ (inside (hex "3A 2A") (hex "10 81 00"), refused 9 4)
+    ∷ (inside (hex "3A 2A") (hex "42 81 00 77"), refused 9 4)  -- an initializer's name: length
+    ∷ (inside (hex "3A 5A") (hex "8A 00 01 61"), refused 9 4)  -- an input's name: tag; its type: length
+    ∷ (inside (hex "3A 5A") (hex "12 80 00"), refused 9 4)
+    ∷ (inside (hex "3A 5A 12") (hex "8A 00 00"), refused 9 6)  -- tensor: tag, length
+    ∷ (inside (hex "3A 5A 12") (hex "0A 80 00"), refused 9 6)
+    ∷ (inside (hex "3A 5A 12 0A") (hex "88 00 01"), refused 9 8)  -- elem_type: tag, value; shape: length
+    ∷ (inside (hex "3A 5A 12 0A") (hex "08 81 00"), refused 9 8)
+    ∷ (inside (hex "3A 5A 12 0A") (hex "12 80 00"), refused 9 8)
+    ∷ (inside (hex "3A 5A 12 0A 12") (hex "8A 00 00"), refused 9 10)  -- dim: tag, length
+    ∷ (inside (hex "3A 5A 12 0A 12") (hex "0A 80 00"), refused 9 10)
+    ∷ (inside (hex "3A 5A 12 0A 12 0A") (hex "88 00 01"), refused 9 12)  -- dim_value: tag, value; dim_param: length
+    ∷ (inside (hex "3A 5A 12 0A 12 0A") (hex "08 81 00"), refused 9 12)
+    ∷ (inside (hex "3A 5A 12 0A 12 0A") (hex "12 81 00 4E"), refused 9 12)
+    -- tag: 1, 2, 9, 3, 4, 5
+    ∷ (hex "88", refused 1 0)
+    ∷ (hex "88 80", refused 1 0)
+    ∷ (hex "88 80 80 80 80 80 80 80 80 80 00", refused 2 0)
+    ∷ (hex "88 80 80 80 80 80 80 80 80 00", refused 9 0)
+    ∷ (hex "80 00 00", refused 9 0)
+    ∷ (hex "8B 00", refused 9 0)
+    ∷ (hex "80 80 80 80 90 00", refused 9 0)
+    ∷ (hex "8A 00 00", refused 9 0)
+    ∷ (hex "08 08 88 00 08", refused 9 2)
+    -- 4 and 5, then value or length: 1, 2, 9, the extent's 1; then 6
+    ∷ (hex "0A 80 00", refused 4 0)
+    ∷ (hex "08 08 08 80 00", refused 5 2)
+    ∷ (hex "08 80", refused 1 0)
+    ∷ (hex "08 80 80 80 80 80 80 80 80 80 80 00", refused 2 0)
+    ∷ (hex "3A 85 00", refused 9 0)
+    ∷ (hex "A2 06 85 00", refused 9 0)
+    ∷ (inside (hex "3A 0A 2A 32 0A 2A 32 0A 2A 32 0A 2A 32 0A 2A 32 0A 2A 32 0A 2A 32 0A 2A") (hex "32 80 00"), refused 9 48)
+    ∷ (inside (hex "3A 0A 2A 32 0A 2A 32 0A 2A 32 0A 2A 32 0A 2A 32 0A 2A 32 0A 2A 32 0A 2A") (hex "32 00"), refused 6 48)
+    -- the first fault in byte order
+    ∷ (hex "3A 00 88 00 08 0B", refused 9 2)
+    ∷ (hex "3A 00 0B 88 00 08", refused 3 2)
+    ∷ [])
+
+walks-hold : map (λ s. firstWalk (s .0)) (walks ++ padded) ≡ map (λ s. s .1) (walks ++ padded)
+unfolding walks nested graphs inside ways unknown padded flatMap Notation·computes FirstWalk·computes
 walks-hold = refl

@@ -3,6 +3,7 @@ pub mod Lists
 pub mod Bytes
 pub mod Passing
 pub mod VarintLaws
+pub mod Answers
+pub mod ShortestLaws
 pub mod SliceLaws
 pub mod Refusing
-pub mod Answers

@@ -195,6 +195,10 @@ or-shift true false c = refl
 or-shift false true c = refl
 or-shift false false c = refl
 
+pub or-true : (a : Bool) → (a || true) ≡ true
+or-true true = refl
+or-true false = refl
+
 pub or-false : (a : Bool) → (a || false) ≡ a
 or-false true = refl
 or-false false = refl

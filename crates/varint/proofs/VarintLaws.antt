@@ -4,14 +4,15 @@ use native.Mathlib.Omega.{arith}
 use native.Mathlib.Nat.{mul-le-mul-left, mul-add, mul-assoc}
 use mathlib.Core.Path.{_≡_, refl, sym, ap, _∙_}
 use mathlib.Core.Logic.{_⊎_, inl, inr}
-use mathlib.Core.Bool.{Bool, true, false, _&&_}
+use mathlib.Core.Bool.{Bool, true, false, not, _&&_, _||_}
 use lib.Dec.{T, leb, ltb, eqb, le→leb, eqb→eq}
 use mir.Facts.{no-leb}
+use borrow.Author.Tests.{ne-eqb}
 use Rattle.varint.specs.Outcome.{pass, fail, _>>=_, _>>_, Judged, refused, refuse_at:_when:_}
 use Rattle.varint.specs.Bytes.{Bytes, byte}
-use Rattle.varint.specs.Varint.{varintFrom, varint}
+use Rattle.varint.specs.Varint.{varintFrom, varint, shortestVarint}
 use Rattle.varint.specs.declared.Varint.{Varint}
-use Rattle.varint.proofs.Lists.{T-true, T-false}
+use Rattle.varint.proofs.Lists.{T-true, T-false, or-true}
 
 -- ---- the definition, case by case; at the tenth byte `left` is 1
 
@@ -39,15 +40,16 @@ module _ (s : Bytes) (place end pos : ℕ) where
       go true e (inr a) = absurd (a (ap suc (e tt)))
 
   varint-last : (left : ℕ) → 1 ≤ left → pos < end → Allowed left (byte s pos) → byte s pos < 128
-      → varintFrom s left place end pos ≡ pass (record { value = byte s pos; next = pos + 1 })
+      → varintFrom s left place end pos ≡ pass (record { value = byte s pos; next = pos + 1; shortest = eqb (left - 1) 9 || ltb 0 (byte s pos) })
   unfolding varintFrom _>>_ refuse_at:_when:_
   varint-last zero l h a b = absurd (omega arith)
   varint-last (suc left) l h a b =
-      rw (T-false (leb end pos) (no-leb h), tenth-passes left (byte s pos) a, T-true (ltb (byte s pos) 128) (le→leb (suc (byte s pos)) 128 b), varintFrom) refl
+      let e : suc left - 1 ≡ left = omega arith in
+      rw e (rw (T-false (leb end pos) (no-leb h), tenth-passes left (byte s pos) a, T-true (ltb (byte s pos) 128) (le→leb (suc (byte s pos)) 128 b), varintFrom) refl)
 
   varint-more : (left : ℕ) → 2 ≤ left → pos < end → 128 ≤ byte s pos
       → varintFrom s left place end pos
-      ≡ (varintFrom s (left - 1) place end (pos + 1) >>= λ high. pass (record { value = byte s pos % 128 + 128 * high .value; next = high .next }))
+      ≡ (varintFrom s (left - 1) place end (pos + 1) >>= λ high. pass (record { value = byte s pos % 128 + 128 * high .value; next = high .next; shortest = high .shortest }))
   unfolding varintFrom _>>_ refuse_at:_when:_
   varint-more zero l h b = absurd (omega arith)
   varint-more (suc left) l h b =
@@ -81,19 +83,19 @@ limit-more (suc (suc m)) h = let e : suc m ≡ suc (suc m) - 1 = omega arith in 
 
 -- the value so far, and scale times what follows
 pub onto : (value scale : ℕ) → Judged Varint → Judged Varint
-onto value scale o = o >>= λ w. pass (record { value = value + scale * w .value; next = w .next })
+onto value scale o = o >>= λ w. pass (record { value = value + scale * w .value; next = w .next; shortest = w .shortest })
 
 onto-nothing : (o : Judged Varint) → onto 0 1 o ≡ o
 unfolding onto _>>=_
-onto-nothing (pass w) = ap (λ (x : ℕ). pass (record { value = x; next = w .next })) (omega arith)
+onto-nothing (pass w) = ap (λ (x : ℕ). pass (record { value = x; next = w .next; shortest = w .shortest })) (omega arith)
 onto-nothing (fail r) = refl
 
 onto-more : (v sc b : ℕ) (o : Judged Varint) → 128 ≤ b → b < 256
-    → onto (v + sc * (b - 128)) (sc * 128) o ≡ onto v sc (o >>= λ high. pass (record { value = b % 128 + 128 * high .value; next = high .next }))
+    → onto (v + sc * (b - 128)) (sc * 128) o ≡ onto v sc (o >>= λ high. pass (record { value = b % 128 + 128 * high .value; next = high .next; shortest = high .shortest }))
 unfolding onto _>>=_
 onto-more v sc b (pass w) lo hi =
     let m : b % 128 ≡ b - 128 = omega arith in
-    rw m (ap (λ (x : ℕ). pass (record { value = x; next = w .next })) (omega (arith, mul-add sc (b - 128) (128 * w .value), mul-assoc sc 128 (w .value))))
+    rw m (ap (λ (x : ℕ). pass (record { value = x; next = w .next; shortest = w .shortest })) (omega (arith, mul-add sc (b - 128) (128 * w .value), mul-assoc sc 128 (w .value))))
 onto-more v sc b (fail r) lo hi = refl
 
 -- A varint that began at `from` is being read: the value so far is below the scale, what may still come fills 64 bits, and the
@@ -130,9 +132,21 @@ module _ {s : Bytes} {place end from value scale left pos : ℕ} (q : Reading s 
   unfolding onto _>>=_
   turn-tenth b l h e k = ap (onto value scale) (sym (varint-tenth s place end pos left l h (rw e at k))) ∙ q .whole
 
-  pub turn-last : (b : ℕ) → pos < end → Allowed left b → b ≡ byte s pos → b < 128 → pass (record { value = value + scale * b; next = pos + 1 }) ≡ varint s place end from
+  last-byte : (b : ℕ) (x : Bool) → (eqb (left - 1) 9 || ltb 0 b) ≡ x → pos < end → Allowed left b → b ≡ byte s pos → b < 128
+      → pass (record { value = value + scale * b; next = pos + 1; shortest = x }) ≡ varint s place end from
   unfolding onto _>>=_
-  turn-last b h a e k = rw e (ap (onto value scale) (sym (varint-last s place end pos left (q .some) h (rw e at a) (rw e at k))) ∙ q .whole)
+  last-byte b x short h a e k =
+      rw (← short) (rw e (ap (onto value scale) (sym (varint-last s place end pos left (q .some) h (rw e at a) (rw e at k))) ∙ q .whole))
+
+  -- a last byte that is not the first of ten
+  pub turn-last : (b : ℕ) → (left ≡ 10 → ⊥) → pos < end → Allowed left b → b ≡ byte s pos → b < 128
+      → pass (record { value = value + scale * b; next = pos + 1; shortest = ltb 0 b }) ≡ varint s place end from
+  turn-last b l = last-byte b (ltb 0 b) (ap (λ (x : Bool). x || ltb 0 b) (ne-eqb (left - 1) 9 (λ z. l (omega (arith, q .some)))))
+
+  -- one that is not 0
+  pub turn-shortest : (b : ℕ) → 0 < b → pos < end → Allowed left b → b ≡ byte s pos → b < 128
+      → pass (record { value = value + scale * b; next = pos + 1; shortest = true }) ≡ varint s place end from
+  turn-shortest b l = last-byte b true (ap (λ (x : Bool). eqb (left - 1) 9 || x) (T-true (ltb 0 b) (le→leb 1 b l)) ∙ or-true (eqb (left - 1) 9))
 
   pub turn-more : (b : ℕ) → 2 ≤ left → pos < end → b ≡ byte s pos → 128 ≤ b → b < 256 → Reading s place end from (value + scale * (b - 128)) (scale * 128) (left - 1) (pos + 1)
   turn-more b l h e k hi = let j : b - 128 ≤ 127 = omega arith in record {
@@ -141,12 +155,13 @@ module _ {s : Bytes} {place end from value scale left pos : ℕ} (q : Reading s 
     room = mul-assoc scale 128 (limit (left - 1)) ∙ ap (λ (x : ℕ). scale * x) (sym (limit-more left l)) ∙ q .room;
     whole = onto-more value scale b _ k hi
         ∙ ap (onto value scale) (ap (λ (x : ℕ). varintFrom s (left - 1) place end (pos + 1)
-        >>= λ high. pass (record { value = x % 128 + 128 * high .value; next = high .next })) e
+        >>= λ high. pass (record { value = x % 128 + 128 * high .value; next = high .next; shortest = high .shortest })) e
         ∙ sym (varint-more s place end pos left l h (rw e at k)))
         ∙ q .whole;
   }
 
-pub one-byte : (s : Bytes) (place end from b : ℕ) → from < end → b ≡ byte s from → b < 128 → pass (record { value = b; next = from + 1 }) ≡ varint s place end from
+pub one-byte : (s : Bytes) (place end from b : ℕ) → from < end → b ≡ byte s from → b < 128
+    → pass (record { value = b; next = from + 1; shortest = true }) ≡ varint s place end from
 unfolding varint
 one-byte s place end from b h e k = rw e (sym (varint-last s place end from 10 (omega arith) h (inr (λ q. omega arith)) (rw e at k)))
 
@@ -176,8 +191,17 @@ module _ {s : Bytes} {place end from stop pos value scale : ℕ} (q : Going s pl
     pub go-small : (b : ℕ) → b ≤ 127 → value + scale * b < 2 ^ 64
     go-small b l = small-fits (q .reads) b more l
 
-    pub go-last : (b : ℕ) → b ≡ byte s pos → b < 128 → pass (record { value = value + scale * b; next = pos + 1 }) ≡ varint s place end from
-    go-last b e k = turn-last (q .reads) b within (inr (λ z. omega (arith, more))) e k
+    -- it is no first byte where the first goes on
+    pub go-last : (b : ℕ) → 128 ≤ byte s from → b ≡ byte s pos → b < 128
+        → pass (record { value = value + scale * b; next = pos + 1; shortest = ltb 0 b }) ≡ varint s place end from
+    go-last b begun e k = turn-last (q .reads) b later within (inr (λ z. omega (arith, more))) e k
+      where
+        later : q .left ≡ 10 → ⊥
+        later z = let here : byte s pos ≡ byte s from = ap (byte s) (omega (arith, q .count)) in omega arith
+
+    pub go-shortest : (b : ℕ) → 0 < b → b ≡ byte s pos → b < 128
+        → pass (record { value = value + scale * b; next = pos + 1; shortest = true }) ≡ varint s place end from
+    go-shortest b l e k = turn-shortest (q .reads) b l within (inr (λ z. omega (arith, more))) e k
 
     pub go-more : (b : ℕ) → b ≡ byte s pos → 128 ≤ b → b < 256 → Going s place end from stop (pos + 1) (value + scale * (b - 128)) (scale * 128)
     go-more b e k hi = record {
@@ -201,5 +225,5 @@ module _ {s : Bytes} {place end from stop pos value scale : ℕ} (q : Going s pl
     pub go-tenth : (b : ℕ) → b ≡ byte s pos → 1 < b → refused 2 place ≡ varint s place end from
     go-tenth b e l = turn-tenth (q .reads) b tenth k e l
 
-    pub go-end : (b : ℕ) → b ≡ byte s pos → b ≤ 1 → pass (record { value = value + scale * b; next = pos + 1 }) ≡ varint s place end from
-    go-end b e l = turn-last (q .reads) b k (inl (tenth, l)) e (omega arith)
+    pub go-end : (b : ℕ) → b ≡ byte s pos → b ≤ 1 → pass (record { value = value + scale * b; next = pos + 1; shortest = ltb 0 b }) ≡ varint s place end from
+    go-end b e l = turn-last (q .reads) b (λ z. omega (arith, tenth)) k (inl (tenth, l)) e (omega arith)

@@ -5,6 +5,7 @@ mod varints;
 
 pub use slices::between;
 pub use slices::same_bytes;
+pub use varints::read_shortest;
 pub use varints::read_varint;
 pub use varints::wide;
 
@@ -14,10 +15,11 @@ pub struct Refusal {
     pub place: usize,
 }
 
-// A varint that was read: its value, and where it ends.
+// A varint that was read: its value, where it ends, and whether its form was the shortest.
 pub struct Varint {
     pub value: u64,
     pub next: usize,
+    pub shortest: bool,
 }
 
 pub enum VarintAnswer {
@@ -32,4 +34,6 @@ impl Refusal {
     pub const TENTH_BYTE: u8 = 2;
 
     pub const BAD_TAG: u8 = 3;
+
+    pub const PADDED: u8 = 9;
 }

@@ -3,7 +3,7 @@ ghost use mathlib.Core.Path.{_≡_};
 ghost use Prim.Native.Nat.{_+_, _<_, min};
 ghost use Rattle.varint.specs.Outcome.{refused};
 ghost use Rattle.varint.specs.Bytes.{byte};
-ghost use Rattle.varint.specs.Varint.{varint};
+ghost use Rattle.varint.specs.Varint.{varint, shortestVarint};
 ghost use Rattle.varint.specs.Answers.{varintSays};
 use crate::Refusal;
 use crate::Varint;
@@ -60,6 +60,7 @@ pub fn read_varint(s: &[u8], place: usize, end: usize, from: usize) -> VarintAns
         return VarintAnswer::Read(Varint {
             value: first,
             next: from + 1,
+            shortest: true,
         });
     }
     let stop = tenth_or_end(end, from);
@@ -72,6 +73,7 @@ pub fn read_varint(s: &[u8], place: usize, end: usize, from: usize) -> VarintAns
             return VarintAnswer::Read(Varint {
                 value: value + scale * b,
                 next: pos + 1,
+                shortest: 0 < b,
             });
         }
         value += scale * (b - 128);
@@ -88,5 +90,20 @@ pub fn read_varint(s: &[u8], place: usize, end: usize, from: usize) -> VarintAns
     VarintAnswer::Read(Varint {
         value: value + scale * tenth,
         next: pos + 1,
+        shortest: 0 < tenth,
     })
+}
+
+// "every caller refuses a padded tag, value or length with 9, after 1 and 2 for that varint"
+pub fn read_shortest(s: &[u8], place: usize, end: usize, from: usize) -> VarintAnswer
+    ensures { λ r. ⌜ varintSays r ≡ shortestVarint (now (s .entry)) place end from ⌝ }
+{
+    let read = read_varint(s, place, end, from);
+    let VarintAnswer::Read(v) = read else {
+        return read;
+    };
+    if v.shortest {
+        return VarintAnswer::Read(v);
+    }
+    refused(Refusal::PADDED, place)
 }

@@ -7,7 +7,7 @@ use lib.Dec.{T, ltb, eqb, nleb→lt, nltb→le}
 use mir.Facts.{no-leb}
 use Rattle.varint.specs.Outcome.{pass, fail, _>>=_, _>>_, Judged, refuse_at:_when:_}
 use Rattle.varint.specs.Bytes.{Bytes, byte}
-use Rattle.varint.specs.Varint.{varintFrom, varint}
+use Rattle.varint.specs.Varint.{varintFrom, varint, shortestVarint}
 use Rattle.wire.specs.Wire.{tag, sized, value, field}
 use Rattle.wire.specs.declared.Tag.{Tag}
 
@@ -40,20 +40,24 @@ module _ (s : Bytes) (end later : ℕ) (wider : end ≤ later) where
       again-rule 1 _ _ _ _ _ (λ t. no-leb {a = later} {b = pos} (let h = nleb→lt end pos t in omega arith))
       (again-rule 2 _ _ _ _ _ (λ t. t) (again-if (ltb (byte s pos) 128) _ _ _ _ refl (again-bind _ _ _ _ (varint-again left place (pos + 1)) (λ v. refl))))
 
+  shortest-again : (place pos : ℕ) → Again (shortestVarint s place end pos) (shortestVarint s place later pos)
+  unfolding shortestVarint varint
+  shortest-again place pos = again-bind _ _ _ _ (varint-again 10 place pos) (λ v. again-rule 9 _ _ _ _ _ (λ t. t) refl)
+
   sized-again : (t : Tag) (v start size : ℕ) → Again (sized t end v start size) (sized t later v start size)
   unfolding sized
   sized-again t v start size = again-rule 1 _ _ _ _ _ (λ g. no-leb {a = suc later} {b = start + size} (let h = nltb→le end (start + size) g in omega arith)) refl
 
   value-again : (t : Tag) → Again (value s t end) (value s t later)
-  unfolding value varint
+  unfolding value
   value-again t =
-      again-if (eqb (t .wire) 0) _ _ _ _ (again-bind _ _ _ _ (varint-again 10 _ _) (λ v. sized-again t _ _ _))
-      (again-if (eqb (t .wire) 2) _ _ _ _ (again-bind _ _ _ _ (varint-again 10 _ _) (λ v. sized-again t _ _ _))
+      again-if (eqb (t .wire) 0) _ _ _ _ (again-bind _ _ _ _ (shortest-again _ _) (λ v. sized-again t _ _ _))
+      (again-if (eqb (t .wire) 2) _ _ _ _ (again-bind _ _ _ _ (shortest-again _ _) (λ v. sized-again t _ _ _))
       (again-if (eqb (t .wire) 1) _ _ _ _ (sized-again t _ _ _) (sized-again t _ _ _)))
 
   pub tag-again : (pos : ℕ) → Again (tag s end pos) (tag s later pos)
-  unfolding tag varint
-  tag-again pos = again-bind _ _ _ _ (varint-again 10 pos pos) (λ v. again-rule 3 _ _ _ _ _ (λ t. t) refl)
+  unfolding tag
+  tag-again pos = again-bind _ _ _ _ (shortest-again pos pos) (λ v. again-rule 3 _ _ _ _ _ (λ t. t) refl)
 
   pub field-again : (pos : ℕ) → Again (field s end pos) (field s later pos)
   unfolding field

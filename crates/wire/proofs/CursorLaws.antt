@@ -9,7 +9,7 @@ use borrow.Author.Tests.{lt-ltb, le-ltb, eq-eqb, ne-eqb, lt-leb}
 use Rattle.varint.specs.Outcome.{pass, fail, _>>=_, _>>_, Judged, refused, refuse_at:_when:_}
 use Rattle.varint.specs.Lists.{first, keep, contains}
 use Rattle.varint.specs.Bytes.{Bytes}
-use Rattle.varint.specs.Varint.{varint}
+use Rattle.varint.specs.Varint.{shortestVarint}
 use Rattle.wire.specs.Wire.{badTag, tag, sized, value, field}
 use Rattle.varint.specs.Answers.{varintSays}
 use Rattle.wire.specs.Answers.{tagSays, fieldSays, after, withCursor, foundIn, soughtIn}
@@ -39,7 +39,7 @@ bad-other t a b c d e = simp (lt-leb _ _ a, ne-eqb _ _ b, ne-eqb _ _ c, ne-eqb _
     go true = refl
     go false = refl
 
-module _ (s : Bytes) (end pos : ℕ) {r : VarintAnswer} (read : varintSays r ≡ varint s pos end pos) where
+module _ (s : Bytes) (end pos : ℕ) {r : VarintAnswer} (read : varintSays r ≡ shortestVarint s pos end pos) where
   pub tag-refused : {q : Refusal} → r ≡ varint-answer.Refused q → fail q ≡ tag s end pos
   unfolding tag varintSays _>>=_
   tag-refused e = rw (← says varintSays read e)
@@ -67,7 +67,7 @@ module _ (t : Tag) (end v start size : ℕ) where
   sized-in h = simp (le-ltb _ _ h)
 
 module _ (s : Bytes) (t : Tag) (end : ℕ) where
-  module _ {r : VarintAnswer} (read : varintSays r ≡ varint s (t .place) end (t .next)) where
+  module _ {r : VarintAnswer} (read : varintSays r ≡ shortestVarint s (t .place) end (t .next)) where
     pub number-refused : {q : Refusal} → t .wire ≡ 0 → r ≡ varint-answer.Refused q → fail q ≡ withCursor end (value s t end)
     unfolding value withCursor varintSays _>>=_
     number-refused w e = rw w (rw (← says varintSays read e))

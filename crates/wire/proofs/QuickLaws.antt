@@ -9,7 +9,7 @@ use borrow.Author.Tests.{ne-eqb}
 use Rattle.varint.specs.Outcome.{pass, _>>=_, _>>_, Judged, refuse_at:_when:_}
 use Rattle.varint.specs.Lists.{contains}
 use Rattle.varint.specs.Bytes.{Bytes, byte}
-use Rattle.varint.specs.Varint.{varint}
+use Rattle.varint.specs.Varint.{varint, shortestVarint}
 use Rattle.wire.specs.Wire.{tag, sized, value, field}
 use Rattle.varint.specs.Answers.{varintSays}
 use Rattle.wire.specs.Answers.{fieldSays, withCursor, after}
@@ -24,36 +24,39 @@ use Rattle.wire.specs.declared.FieldAnswer.the-variants as field-answer
 use Rattle.varint.proofs.Passing.{fail-no-pass, pass-same}
 use Rattle.varint.proofs.Answers.{says}
 use Rattle.wire.proofs.ShortLaws.{good-tag, sized-made}
-use Rattle.varint.proofs.VarintLaws.{one-byte, Reading, reading-start, turn-more, turn-last, Going, go-start, go-more, go-last, go-end}
+use Rattle.varint.proofs.VarintLaws.{one-byte, Reading, reading-start, turn-more, turn-shortest, Going, go-start, go-more, go-shortest, go-end}
+use Rattle.varint.proofs.ShortestLaws.{shortest-of, shortest-is}
 
 -- ---- a varint of one to three bytes
 
-varint-same : {x y x′ y′ : ℕ} {o : Judged Varint} → x′ ≡ x → y′ ≡ y → pass (record { value = x; next = y }) ≡ o → pass (record { value = x′; next = y′ }) ≡ o
-varint-same e f h = rw (e, f) h
+varint-same : (s : Bytes) (place end pos : ℕ) {x y x′ y′ : ℕ} → x′ ≡ x → y′ ≡ y → pass (record { value = x; next = y; shortest = true }) ≡ varint s place end pos
+    → pass (record { value = x′; next = y′; shortest = true }) ≡ shortestVarint s place end pos
+varint-same s place end pos e f h = shortest-of s place end pos (rw (e, f) h) refl
 
 module _ (s : Bytes) (end pos a : ℕ) (first : a ≡ byte s pos) where
-  pub few-one : {next : ℕ} → next ≡ pos + 1 → next ≤ end → a < 128 → Few s end pos (record { value = a; next = next })
-  few-one e h k = record { inside = h; small = omega arith; read = λ place. varint-same refl e (one-byte s place end pos a (omega arith) first k) }
+  pub few-one : {next : ℕ} → next ≡ pos + 1 → next ≤ end → a < 128 → Few s end pos (record { value = a; next = next; shortest = true })
+  few-one e h k = record { inside = h; small = omega arith; read = λ place. varint-same s place end pos refl e (one-byte s place end pos a (omega arith) first k) }
 
   module _ (more : 128 ≤ a) (byte-a : a < 256) (b : ℕ) (second : b ≡ byte s (pos + 1)) where
     two : (place : ℕ) → pos + 2 ≤ end → Reading s place end pos (0 + 1 * (a - 128)) (1 * 128) (10 - 1) (pos + 1)
     two place h = turn-more (reading-start s place end pos) a (omega arith) (omega arith) first more byte-a
 
-    pub few-two : {value next : ℕ} → value ≡ a - 128 + 128 * b → next ≡ pos + 2 → next ≤ end → b < 128 → Few s end pos (record { value = value; next = next })
-    few-two v e h k = record {
+    pub few-two : {value next : ℕ} → value ≡ a - 128 + 128 * b → next ≡ pos + 2 → next ≤ end → 0 < b → b < 128
+        → Few s end pos (record { value = value; next = next; shortest = true })
+    few-two v e h l k = record {
       inside = h;
       small = omega arith;
-      read = λ place. varint-same (omega arith) (omega arith) (turn-last (two place (omega arith)) b (omega arith) (inr (λ z. omega arith)) second k);
+      read = λ place. varint-same s place end pos (omega arith) (omega arith) (turn-shortest (two place (omega arith)) b l (omega arith) (inr (λ z. omega arith)) second k);
     }
 
     module _ (again : 128 ≤ b) (byte-b : b < 256) (c : ℕ) (third : c ≡ byte s (pos + 2)) where
-      pub few-three : {value next : ℕ} → value ≡ a - 128 + 128 * (b - 128) + 16384 * c → next ≡ pos + 3 → next ≤ end → c < 128
-          → Few s end pos (record { value = value; next = next })
-      few-three v e h k = record {
+      pub few-three : {value next : ℕ} → value ≡ a - 128 + 128 * (b - 128) + 16384 * c → next ≡ pos + 3 → next ≤ end → 0 < c → c < 128
+          → Few s end pos (record { value = value; next = next; shortest = true })
+      few-three v e h l k = record {
         inside = h;
         small = omega arith;
-        read = λ place. varint-same (omega arith) (omega arith)
-            (turn-last (turn-more (two place (omega arith)) b (omega arith) (omega arith) second again byte-b) c (omega arith)
+        read = λ place. varint-same s place end pos (omega arith) (omega arith)
+            (turn-shortest (turn-more (two place (omega arith)) b (omega arith) (omega arith) second again byte-b) c l (omega arith)
             (inr (λ z. omega arith)) (third ∙ ap (λ (x : ℕ). byte s x) (omega arith)) k);
       }
 
@@ -94,22 +97,22 @@ module _ {s : Bytes} {end pos i : ℕ} (q : Skipping s end pos i) {b : ℕ} (rea
     going = λ place. go-more (q .going place) (omega (arith, q .there)) b at-here k hi;
   }
 
-  pub skip-last : {next : ℕ} → i < 9 → b < 128 → next ≡ pos + i + 1 → Many s end pos next
-  skip-last {next} h k e = record {
+  pub skip-last : {next : ℕ} → i < 9 → 0 < b → b < 128 → next ≡ pos + i + 1 → Many s end pos next
+  skip-last {next} h l k e = record {
     value = q .value + q .scale * b;
     inside = omega (arith, q .room);
-    read = λ place. varint-same refl (omega (arith, q .there)) (go-last (q .going place) (omega (arith, q .there)) b at-here k);
+    read = λ place. varint-same s place end pos refl (omega (arith, q .there)) (go-shortest (q .going place) (omega (arith, q .there)) b l at-here k);
   }
 
-pub skip-tenth : {s : Bytes} {end pos i : ℕ} (q : Skipping s end pos i) {b next : ℕ} → 9 ≤ i → b ≡ byte s (pos + 9) → b ≤ 1 → next ≡ pos + 10 → Many s end pos next
+pub skip-tenth : {s : Bytes} {end pos i : ℕ} (q : Skipping s end pos i) {b next : ℕ} → 9 ≤ i → b ≡ byte s (pos + 9) → b ≡ 1 → next ≡ pos + 10 → Many s end pos next
 skip-tenth {s} {end} {pos} {i} q {b} {next} h read k e =
     let same : pos + 9 ≡ pos + i = omega (arith, q .at-most) in
     record {
-      value = q .value + q .scale * b;
+      value = q .value + q .scale * 1;
       inside = omega (arith, q .room);
-      read = λ place. varint-same refl (omega (arith, q .there))
-          (go-end (q .going place) (omega (arith, q .there)) (omega (arith, q .there, q .room)) b (at-here q (read ∙ ap (λ (x : ℕ). byte s x) same))
-          k);
+      read = λ place. varint-same s place end pos refl (omega (arith, q .there))
+          (go-end (q .going place) (omega (arith, q .there)) (omega (arith, q .there, q .room)) 1 (sym k ∙ at-here q (read ∙ ap (λ (x : ℕ). byte s x) same))
+          (omega arith));
     }
 
 -- ---- a tag and its value
@@ -128,11 +131,11 @@ unfolding tag _>>=_ _>>_ refuse_at:_when:_
 quick-tag s end pos v q low k = rw (← q .read pos, good-tag (v .value) (v .value % 8) low (q .small) refl k)
 
 module _ (s : Bytes) (t : Tag) (end : ℕ) where
-  as-number : t .wire ≡ 0 → (v : Varint) → pass v ≡ varint s (t .place) end (t .next) → sized t end (v .value) (v .next) 0 ≡ value s t end
+  as-number : t .wire ≡ 0 → (v : Varint) → pass v ≡ shortestVarint s (t .place) end (t .next) → sized t end (v .value) (v .next) 0 ≡ value s t end
   unfolding value _>>=_
   as-number w v e = rw w (rw (← e))
 
-  as-length : t .wire ≡ 2 → (v : Varint) → pass v ≡ varint s (t .place) end (t .next) → sized t end 0 (v .next) (v .value) ≡ value s t end
+  as-length : t .wire ≡ 2 → (v : Varint) → pass v ≡ shortestVarint s (t .place) end (t .next) → sized t end 0 (v .next) (v .value) ≡ value s t end
   unfolding value _>>=_
   as-length w v e = rw w (rw (← e))
 
@@ -151,7 +154,7 @@ module _ (s : Bytes) (t : Tag) (end : ℕ) where
   fits-there v start size next e h = rw e (sym (sized-made t end v start size (omega arith)))
 
   module _ {f : Field} where
-    pub quick-number : (v : Varint) → pass v ≡ varint s (t .place) end (t .next) → t .wire ≡ 0 → v .next ≤ end → f ≡ fieldOf t (v .value) (v .next) (v .next) → QuickValue s t end f
+    pub quick-number : (v : Varint) → pass v ≡ shortestVarint s (t .place) end (t .next) → t .wire ≡ 0 → v .next ≤ end → f ≡ fieldOf t (v .value) (v .next) (v .next) → QuickValue s t end f
     unfolding contains
     quick-number v e w h k = record {
       good = a-wire 0 w refl;
@@ -187,7 +190,7 @@ ends-there e h = rw e at h
 
 pub long-value : {s : Bytes} {t : Tag} {end next : ℕ} (q : Long s t end next) {f : Field} → f ≡ fieldOf t (q .number .value) next next → QuickValue s t end f
 long-value {s} {t} {end} {next} q e =
-    quick-number s t end (record { value = q .number .value; next = next }) (q .number .read (t .place)) (q .zero) (q .number .inside) e
+    quick-number s t end (record { value = q .number .value; next = next; shortest = true }) (q .number .read (t .place)) (q .zero) (q .number .inside) e
 
 -- ---- as answers say it
 
@@ -211,9 +214,10 @@ pub long-answer : {s : Bytes} {t : Tag} {end far : ℕ} → Long s t end far →
     → f ≡ fieldOf t n far far
     → fieldSays (field-answer.Read f (record { at = far; end = end })) ≡ withCursor end (value s t end)
 long-answer {s} {t} {end} {far} q known {f} e =
+    let v : Varint = record { value = q .number .value; next = far; shortest = true } in
     let there : f .next ≡ far = ap (λ (g : Field). g .next) e in
     let same : f ≡ fieldOf t (q .number .value) far far =
-    e ∙ ap (λ (x : ℕ). fieldOf t x far far) (known (record { value = q .number .value; next = far }) (q .number .read (t .place))) in
+    e ∙ ap (λ (x : ℕ). fieldOf t x far far) (known v (sym (shortest-is s (t .place) end (t .next) v (sym (q .number .read (t .place))) .0))) in
     ap (λ (x : ℕ). fieldSays (field-answer.Read f (record { at = x; end = end }))) (sym there) ∙ value-answer (long-value q same)
 
 -- the number that is read

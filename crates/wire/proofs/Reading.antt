@@ -8,7 +8,7 @@ use Rattle.varint.specs.Outcome.{pass, fail, _>>=_, Judged}
 use Rattle.varint.specs.declared.Refusal.{Refusal}
 use Rattle.varint.specs.Lists.{contains}
 use Rattle.varint.specs.Bytes.{Bytes, byte}
-use Rattle.varint.specs.Varint.{varintFrom, varint}
+use Rattle.varint.specs.Varint.{varintFrom, varint, shortestVarint}
 use Rattle.wire.specs.Wire.{tag, sized, value, field}
 use Rattle.varint.specs.declared.Varint.{Varint}
 use Rattle.wire.specs.declared.Tag.{Tag}
@@ -17,7 +17,7 @@ use Rattle.varint.proofs.Tells.{Tells, Among, tells-bind, tells-rule, tells-if}
 
 -- the refusals of a reader, at the place of the tag
 abbrev pub Wire·refusals : List ℕ
-Wire·refusals = 1 ∷ 2 ∷ 3 ∷ []
+Wire·refusals = 1 ∷ 2 ∷ 9 ∷ 3 ∷ []
 
 abbrev pub AtTag : ℕ → Refusal → Type 0
 AtTag place = Among Wire·refusals (λ p. p ≡ place)
@@ -45,22 +45,28 @@ module _ (model : Bytes) where
       tells-if _ _ (ltb (byte model pos) 128) _ _ (λ h. omega arith) (λ h.
       tells-bind (λ (v : Varint). pos + 1 < v .next) (λ (v : Varint). pos < v .next) (AtTag place) _ _ (varint-tells left place end (pos + 1)) (λ v h. omega arith))))
 
+  shortest-tells : (place end pos : ℕ) → Tells (λ v. pos < v .next) (AtTag place) (shortestVarint model place end pos)
+  unfolding shortestVarint varint contains
+  shortest-tells place end pos =
+      tells-bind (λ (v : Varint). pos < v .next) (λ (v : Varint). pos < v .next) (AtTag place) _ _ (varint-tells 10 place end pos)
+      (λ v h. tells-rule _ _ 9 _ _ _ (λ k. (tt, refl)) (λ k. h))
+
   pub tag-tells : (end pos : ℕ) → Tells (λ t. (t .place ≡ pos) × (pos < t .next)) (AtTag pos) (tag model end pos)
-  unfolding tag varint contains
-  tag-tells end pos = tells-bind (λ v. pos < v .next) _ _ _ _ (varint-tells 10 pos end pos) (λ v h. tells-rule _ _ 3 _ _ _ (λ k. (tt, refl)) (λ k. (refl, h)))
+  unfolding tag contains
+  tag-tells end pos = tells-bind (λ v. pos < v .next) _ _ _ _ (shortest-tells pos end pos) (λ v h. tells-rule _ _ 3 _ _ _ (λ k. (tt, refl)) (λ k. (refl, h)))
 
   pub value-tells : (t : Tag) (end : ℕ) → Tells (Follows t end) (AtTag (t .place)) (value model t end)
-  unfolding value varint
+  unfolding value
   value-tells t end =
       tells-if _ _ (eqb (t .wire) 0) _ _ (λ k. measured 0) (λ k.
       tells-if _ _ (eqb (t .wire) 2) _ _ (λ k. counted) (λ k.
       tells-if _ _ (eqb (t .wire) 1) _ _ (λ k. sized-tells t end _ _ _ (omega arith)) (λ k. sized-tells t end _ _ _ (omega arith))))
     where
-      measured : (size : ℕ) → Tells (Follows t end) (AtTag (t .place)) (varintFrom model 10 (t .place) end (t .next) >>= λ v. sized t end (v .value) (v .next) size)
-      measured size = tells-bind (λ v. t .next < v .next) _ _ _ _ (varint-tells 10 (t .place) end (t .next)) (λ v k. sized-tells t end _ _ _ (omega arith))
+      measured : (size : ℕ) → Tells (Follows t end) (AtTag (t .place)) (shortestVarint model (t .place) end (t .next) >>= λ v. sized t end (v .value) (v .next) size)
+      measured size = tells-bind (λ v. t .next < v .next) _ _ _ _ (shortest-tells (t .place) end (t .next)) (λ v k. sized-tells t end _ _ _ (omega arith))
 
-      counted : Tells (Follows t end) (AtTag (t .place)) (varintFrom model 10 (t .place) end (t .next) >>= λ v. sized t end 0 (v .next) (v .value))
-      counted = tells-bind (λ v. t .next < v .next) _ _ _ _ (varint-tells 10 (t .place) end (t .next)) (λ v k. sized-tells t end _ _ _ (omega arith))
+      counted : Tells (Follows t end) (AtTag (t .place)) (shortestVarint model (t .place) end (t .next) >>= λ v. sized t end 0 (v .next) (v .value))
+      counted = tells-bind (λ v. t .next < v .next) _ _ _ _ (shortest-tells (t .place) end (t .next)) (λ v k. sized-tells t end _ _ _ (omega arith))
 
   pub field-tells : (end pos : ℕ) → Tells (Fits pos end) (AtTag pos) (field model end pos)
   unfolding field

@@ -10,14 +10,14 @@ use borrow.Author.Tests.{le-ltb, ne-eqb, lt-leb}
 use Rattle.varint.specs.Outcome.{pass, _>>=_, _>>_, Judged, refuse_at:_when:_}
 use Rattle.varint.specs.Lists.{contains}
 use Rattle.varint.specs.Bytes.{Bytes, byte}
-use Rattle.varint.specs.Varint.{varint}
+use Rattle.varint.specs.Varint.{shortestVarint}
 use Rattle.wire.specs.Wire.{badTag, tag, sized, value, field}
 use Rattle.wire.specs.Answers.{fieldSays, withCursor, after}
 use Rattle.wire.specs.Short.{Short, shortField}
 use Rattle.wire.specs.declared.Tag.{Tag}
 use Rattle.wire.specs.declared.Field.{Field}
 use Rattle.wire.specs.declared.FieldAnswer.the-variants as field-answer
-use Rattle.varint.proofs.VarintLaws.{one-byte}
+use Rattle.varint.proofs.ShortestLaws.{shortest-byte}
 
 pub good-tag : (t w : ℕ) → 8 ≤ t → t < 2 ^ 32 → t % 8 ≡ w → contains w (0 ∷ 1 ∷ 2 ∷ 5 ∷ []) ≡ true → badTag t ≡ false
 unfolding badTag
@@ -50,10 +50,10 @@ module _ (s : Bytes) (end pos : ℕ) where
   module _ (room : pos + 2 ≤ end) (low : 8 ≤ byte s pos) (high : byte s pos < 128) (near : byte s (pos + 1) < 128) where
     tag-short : (w : ℕ) → byte s pos % 8 ≡ w → contains w (0 ∷ 1 ∷ 2 ∷ 5 ∷ []) ≡ true → pass first ≡ tag s end pos
     unfolding tag first _>>=_ _>>_ refuse_at:_when:_
-    tag-short w e k = rw (← one-byte s pos end pos (byte s pos) (omega arith) refl high, good-tag (byte s pos) w low (omega arith) e k)
+    tag-short w e k = rw (← shortest-byte s pos end pos (byte s pos) (omega arith) refl high, good-tag (byte s pos) w low (omega arith) e k)
 
-    after-short : pass (record { value = byte s (pos + 1); next = pos + 1 + 1 }) ≡ varint s pos end (pos + 1)
-    after-short = one-byte s pos end (pos + 1) (byte s (pos + 1)) (omega arith) refl near
+    after-short : pass (record { value = byte s (pos + 1); next = pos + 1 + 1; shortest = true }) ≡ shortestVarint s pos end (pos + 1)
+    after-short = shortest-byte s pos end (pos + 1) (byte s (pos + 1)) (omega arith) refl near
 
     number-short : byte s pos % 8 ≡ 0 → pass (made (byte s (pos + 1)) (pos + 1 + 1) (pos + 1 + 1 + 0)) ≡ field s end pos
     unfolding field value first made contains _>>=_

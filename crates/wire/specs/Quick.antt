@@ -6,23 +6,23 @@ use mathlib.Core.List.{List, [], _∷_}
 use Rattle.varint.specs.Outcome.{pass}
 use Rattle.varint.specs.Lists.{contains}
 use Rattle.varint.specs.Bytes.{Bytes}
-use Rattle.varint.specs.Varint.{varint}
+use Rattle.varint.specs.Varint.{shortestVarint}
 use Rattle.wire.specs.Wire.{VARINT, I64, LEN, I32, tag, sized, value}
 use Rattle.varint.specs.declared.Varint.{Varint}
 use Rattle.wire.specs.declared.Tag.{Tag}
 use Rattle.wire.specs.declared.Field.{Field}
 
--- A varint that is read at a place, whatever field it is of. It is too short for a tag above 2^32 - 1.
+-- A varint in its shortest form that is read at a place, whatever field it is of. It is too short for a tag above 2^32 - 1.
 pub record Few (model : Bytes) (end pos : ℕ) (v : Varint) : Type 0 where
   pub inside : v .next ≤ end
   pub small : v .value < 2 ^ 32
-  pub read : (place : ℕ) → pass v ≡ varint model place end pos
+  pub read : (place : ℕ) → pass v ≡ shortestVarint model place end pos
 
--- Some varint is read at a place, and ends at `next`.
+-- Some varint in its shortest form is read at a place, and ends at `next`.
 pub record Many (model : Bytes) (end pos next : ℕ) : Type 0 where
   pub value : ℕ
   pub inside : next ≤ end
-  pub read : (place : ℕ) → pass (record { value = value; next = next }) ≡ varint model place end pos
+  pub read : (place : ℕ) → pass (record { value = value; next = next; shortest = true }) ≡ shortestVarint model place end pos
 
 abbrev pub wires : List ℕ
 wires = VARINT ∷ I64 ∷ LEN ∷ I32 ∷ []

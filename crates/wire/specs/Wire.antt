@@ -8,7 +8,7 @@ use lib.Dec.{leb, ltb, eqb}
 use Rattle.varint.specs.Outcome.{pass, fail, _>>=_, _>>_, Judged, refuse_at:_when:_}
 use Rattle.varint.specs.Lists.{contains, Lists·computes}
 use Rattle.varint.specs.Bytes.{Bytes}
-use Rattle.varint.specs.Varint.{varint, Varint·computes}
+use Rattle.varint.specs.Varint.{shortestVarint, Varint·computes}
 use Rattle.wire.specs.declared.Tag.{Tag}
 use Rattle.wire.specs.declared.Field.{Field}
 
@@ -45,7 +45,7 @@ sized t end value start size = do
 module _ (model : Bytes) where
   unfoldable pub tag : (end pos : ℕ) → Judged Tag
   tag end pos = do
-    t ← varint model pos end pos
+    t ← shortestVarint model pos end pos
     refuse 3 at: pos when: badTag (t .value)
     pass (record { place = pos; number = t .value / 8; wire = t .value % 8; next = t .next })
 
@@ -53,11 +53,11 @@ module _ (model : Bytes) where
   unfoldable pub value : Tag → (end : ℕ) → Judged Field
   value t end = elim (eqb (t .wire) VARINT) [
     | true ↦ do
-      v ← varint model (t .place) end (t .next)
+      v ← shortestVarint model (t .place) end (t .next)
       sized t end (v .value) (v .next) 0
     | false ↦ elim (eqb (t .wire) LEN) [
       | true ↦ do
-        v ← varint model (t .place) end (t .next)
+        v ← shortestVarint model (t .place) end (t .next)
         sized t end 0 (v .next) (v .value)
       | false ↦ elim (eqb (t .wire) I64) [ true ↦ sized t end 0 (t .next) 8 | false ↦ sized t end 0 (t .next) 4 ]
     ]

@@ -20,7 +20,7 @@ use crate::quick::short_field;
 use crate::quick::short_size;
 use varint::Refusal;
 use varint::VarintAnswer;
-use varint::read_varint;
+use varint::read_shortest;
 
 // The wire types: varint, eight bytes, length and contents, four bytes.
 pub(crate) const VARINT: u64 = 0;
@@ -106,7 +106,7 @@ impl Cursor {
         ensures { λ r. ⌜ tagSays r ≡ tag (now (s .entry)) (self .end) (self .at) ⌝ }
     {
         let at = self.at;
-        match read_varint(s, at, self.end, at) {
+        match read_shortest(s, at, self.end, at) {
             VarintAnswer::Refused(r) => TagAnswer::Refused(r),
             VarintAnswer::Read(v) => {
                 let t = v.value;
@@ -146,13 +146,13 @@ impl Cursor {
         let end = self.end;
         let wire = t.wire;
         if wire == VARINT {
-            return match read_varint(s, t.place, end, t.next) {
+            return match read_shortest(s, t.place, end, t.next) {
                 VarintAnswer::Refused(r) => FieldAnswer::Refused(r),
                 VarintAnswer::Read(v) => sized_field(t, end, v.value, v.next, 0),
             };
         }
         if wire == LEN {
-            return match read_varint(s, t.place, end, t.next) {
+            return match read_shortest(s, t.place, end, t.next) {
                 VarintAnswer::Refused(r) => FieldAnswer::Refused(r),
                 VarintAnswer::Read(v) => sized_field(t, end, 0, v.next, v.value),
             };

@@ -8,7 +8,21 @@ use varint::wide;
 fn unread() -> Varint
     ensures { λ r. ⌜ r .next ≡ 0 ⌝ }
 {
-    Varint { value: 0, next: 0 }
+    Varint {
+        value: 0,
+        next: 0,
+        shortest: true,
+    }
+}
+
+// Where a varint of more than one byte ends; 0, if it is padded.
+fn end_of(next: usize, last: u64) -> usize
+    ensures { λ r. ⌜ (0 < r → (0 < last) × (r ≡ next)) ⌝ }
+{
+    if last == 0 {
+        return 0;
+    }
+    next
 }
 
 // The varint at a place, if it has one to three bytes, as most have. If not, or where a fault is, it ends at 0: a struct and no enum,
@@ -27,6 +41,7 @@ pub(crate) fn few_bytes(s: &[u8], at: usize, end: usize) -> Varint
         return Varint {
             value: a,
             next: at + 1,
+            shortest: true,
         };
     }
     let room = end - at;
@@ -37,7 +52,8 @@ pub(crate) fn few_bytes(s: &[u8], at: usize, end: usize) -> Varint
     if b < 128 {
         return Varint {
             value: a - 128 + 128 * b,
-            next: at + 2,
+            next: end_of(at + 2, b),
+            shortest: true,
         };
     }
     if room < 3 {
@@ -47,7 +63,8 @@ pub(crate) fn few_bytes(s: &[u8], at: usize, end: usize) -> Varint
     if c < 128 {
         return Varint {
             value: a - 128 + 128 * (b - 128) + 16384 * c,
-            next: at + 3,
+            next: end_of(at + 3, c),
+            shortest: true,
         };
     }
     unread()
@@ -68,12 +85,13 @@ pub(crate) fn many_end(s: &[u8], at: usize, end: usize) -> usize
     }
     let mut i: usize = 0;
     while i < 9 {
-        if wide(s[at + i]) < 128 {
-            return at + i + 1;
+        let b = wide(s[at + i]);
+        if b < 128 {
+            return end_of(at + i + 1, b);
         }
         i += 1;
     }
-    if 1 < wide(s[at + 9]) {
+    if wide(s[at + 9]) != 1 {
         return 0;
     }
     at + 10

@@ -31,7 +31,12 @@ add-t17 c = record { fits = go-small (c .before .before .before .loop .inv) (c .
 
 returns-3 : tie.Need-returns-3 Inv-loop μ-loop
 unfolding varintSays
-returns-3 c = go-last (c .before .before .before .loop .inv) (c .before .before .loop-test .taken) _ (c .before .byte-at2 .ensures .0) (c .if3 .taken)
+returns-3 c =
+    let c1 = c .before in
+    let c2 = c1 .before in
+    let loop = c2 .before in
+    let c5 = loop .before .before in
+    go-last (loop .loop .inv) (c2 .loop-test .taken) _ (omega (arith, c5 .before .byte-at .ensures .0, c5 .if2 .left)) (c1 .byte-at2 .ensures .0) (c .if3 .taken)
 
 mul-value : tie.Need-mul-value Inv-loop μ-loop
 mul-value c =
@@ -65,16 +70,16 @@ returns-5 c =
     let loop = c4 .before in
     c .refused3 .ensures ∙ go-tenth (loop .loop .inv) (c4 .loop-test .left) (c3 .if4 .left) _ (c2 .byte-at3 .ensures .0) (c1 .if5 .taken)
 
-mul-t22 : tie.Need-mul-t22 Inv-loop μ-loop
-mul-t22 c =
+mul-t23 : tie.Need-mul-t23 Inv-loop μ-loop
+mul-t23 c =
     let c1 = c .before in
     let c2 = c1 .before in
     let c3 = c2 .before in
     let loop = c3 .before in
     record { fits = omega (arith, go-fits (loop .loop .inv) (c3 .loop-test .left) (c2 .if4 .left) (c1 .byte-at3 .result) (c .if5 .left)) }
 
-add-t23 : tie.Need-add-t23 Inv-loop μ-loop
-add-t23 c =
+add-t24 : tie.Need-add-t24 Inv-loop μ-loop
+add-t24 c =
     let c1 = c .before in
     let c2 = c1 .before in
     let c3 = c2 .before in
@@ -119,7 +124,7 @@ read-varint-spec =
     (λ c κs. search needs)
     (λ c κs. search needs)
     returns-5
-    mul-t22
-    add-t23
+    mul-t23
+    add-t24
     (λ c. search needs)
     returns-6)

@@ -11,14 +11,14 @@ returns c =
     let c1 = c .before in
     let c3 = c1 .before .before in
     let c5 = c3 .before .before in
-    tag-bad _ _ _ (c5 .read-varint .ensures) (c3 .v .given .1) (sym (c1 .is-bad-tag .ensures) ∙ c .if1 .taken)
+    tag-bad _ _ _ (c5 .read-shortest .ensures) (c3 .v .given .1) (sym (c1 .is-bad-tag .ensures) ∙ c .if1 .taken)
 
 returns-2 : tie.Need-returns-2
 unfolding tagSays
 returns-2 c =
     let c1 = c .before in
     let c3 = c1 .before .before in
-    tag-refused _ _ _ (c3 .read-varint .ensures) (c1 .r .given .1)
+    tag-refused _ _ _ (c3 .read-shortest .ensures) (c1 .r .given .1)
 
 returns-3 : tie.Need-returns-3
 unfolding tagSays
@@ -26,7 +26,7 @@ returns-3 c =
     let c1 = c .before in
     let c3 = c1 .before .before in
     let c5 = c3 .before .before in
-    tag-read _ _ _ (c5 .read-varint .ensures) (c3 .v .given .1) (sym (c1 .is-bad-tag .ensures) ∙ c .if1 .left)
+    tag-read _ _ _ (c5 .read-shortest .ensures) (c3 .v .given .1) (sym (c1 .is-bad-tag .ensures) ∙ c .if1 .left)
 
 pub any-tag-spec : {M : Type 1} → statement M
 any-tag-spec =

@@ -11,14 +11,14 @@ returns c =
     let c1 = c .before in
     let c3 = c1 .before .before in
     let c4 = c3 .before in
-    number-refused _ _ _ (c3 .read-varint .ensures) (c4 .if1 .taken) (c1 .r .given .1)
+    number-refused _ _ _ (c3 .read-shortest .ensures) (c4 .if1 .taken) (c1 .r .given .1)
 
 returns-2 : tie.Need-returns-2
 returns-2 c =
     let c2 = c .before .before in
     let c4 = c2 .before .before in
     let c5 = c4 .before in
-    c .sized-field .ensures ∙ number-read _ _ _ (c4 .read-varint .ensures) (c5 .if1 .taken) (c2 .v .given .1)
+    c .sized-field .ensures ∙ number-read _ _ _ (c4 .read-shortest .ensures) (c5 .if1 .taken) (c2 .v .given .1)
 
 returns-3 : tie.Need-returns-3
 unfolding fieldSays
@@ -26,14 +26,14 @@ returns-3 c =
     let c1 = c .before in
     let c3 = c1 .before .before in
     let c4 = c3 .before in
-    length-refused _ _ _ (c3 .read-varint2 .ensures) (c4 .if2 .taken) (c1 .r2 .given .1)
+    length-refused _ _ _ (c3 .read-shortest2 .ensures) (c4 .if2 .taken) (c1 .r2 .given .1)
 
 returns-4 : tie.Need-returns-4
 returns-4 c =
     let c2 = c .before .before in
     let c4 = c2 .before .before in
     let c5 = c4 .before in
-    c .sized-field2 .ensures ∙ length-read _ _ _ (c4 .read-varint2 .ensures) (c5 .if2 .taken) (c2 .v2 .given .1)
+    c .sized-field2 .ensures ∙ length-read _ _ _ (c4 .read-shortest2 .ensures) (c5 .if2 .taken) (c2 .v2 .given .1)
 
 returns-5 : tie.Need-returns-5
 returns-5 c = c .sized-field3 .ensures ∙ eight-read _ _ _ (c .before .if3 .taken)

@@ -22,9 +22,12 @@ returns-5 : tie.Need-returns-5
 unfolding byte
 returns-5 c =
     let c1 = c .before in
-    let c4 = c1 .before .before .before in
-    let c5 = c4 .before in
-    λ h. few-two _ _ _ _ (c5 .wide .ensures .0) (c4 .if3 .left) (c5 .wide .ensures .1) _ (c1 .wide2 .ensures .0) (omega arith) (omega arith) (omega arith) (c .if5 .taken)
+    let c2 = c1 .before in
+    let c5 = c2 .before .before .before in
+    let c6 = c5 .before in
+    λ h.
+    let q = c .end-of .ensures h in
+    few-two _ _ _ _ (c6 .wide .ensures .0) (c5 .if3 .left) (c6 .wide .ensures .1) _ (c2 .wide2 .ensures .0) (omega arith) (q .1) (omega arith) (q .0) (c1 .if5 .taken)
 
 returns-6 : tie.Need-returns-6
 returns-6 c = λ h. absurd (omega (arith, c .unread4 .ensures))
@@ -33,13 +36,15 @@ returns-7 : tie.Need-returns-7
 unfolding byte
 returns-7 c =
     let c1 = c .before in
-    let c4 = c1 .before .before .before in
-    let c5 = c4 .before in
-    let c8 = c5 .before .before .before in
-    let c9 = c8 .before in
+    let c2 = c1 .before in
+    let c5 = c2 .before .before .before in
+    let c6 = c5 .before in
+    let c9 = c6 .before .before .before in
+    let c10 = c9 .before in
     λ h.
-    few-three _ _ _ _ (c9 .wide .ensures .0) (c8 .if3 .left) (c9 .wide .ensures .1) _ (c5 .wide2 .ensures .0) (c4 .if5 .left) (c5 .wide2 .ensures .1)
-    _ (c1 .wide3 .ensures .0) (omega arith) (omega arith) (omega arith) (c .if7 .taken)
+    let q = c .end-of2 .ensures h in
+    few-three _ _ _ _ (c10 .wide .ensures .0) (c9 .if3 .left) (c10 .wide .ensures .1) _ (c6 .wide2 .ensures .0) (c5 .if5 .left) (c6 .wide2 .ensures .1)
+    _ (c2 .wide3 .ensures .0) (omega arith) (q .1) (omega arith) (q .0) (c1 .if7 .taken)
 
 returns-8 : tie.Need-returns-8
 returns-8 c = λ h. absurd (omega (arith, c .unread5 .ensures))
@@ -65,6 +70,7 @@ few-bytes-spec =
     (λ c. search needs)
     (λ c. search needs)
     (λ c. search needs)
+    (λ c κs. search needs)
     returns-5
     (λ c κs. search needs)
     returns-6
@@ -76,6 +82,7 @@ few-bytes-spec =
     (λ c. search needs)
     (λ c. search needs)
     (λ c. search needs)
+    (λ c κs. search needs)
     returns-7
     (λ c κs. search needs)
     returns-8)

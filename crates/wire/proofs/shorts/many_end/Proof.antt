@@ -28,9 +28,10 @@ returns-4 : tie.Need-returns-4 Inv-loop μ-loop
 unfolding byte
 returns-4 c =
     let c1 = c .before in
-    let c3 = c1 .before .before in
-    let loop = c3 .before in
-    λ h. skip-last (loop .loop .inv) (c1 .wide .ensures .0) (c3 .loop-test .taken) (c .if4 .taken) (omega arith)
+    let c2 = c1 .before in
+    let c4 = c2 .before .before in
+    let loop = c4 .before in
+    λ h. let q = c .end-of .ensures h in skip-last (loop .loop .inv) (c2 .wide .ensures .0) (c4 .loop-test .taken) (q .0) (c1 .if4 .taken) (q .1)
 
 loop-again : tie.Need-loop-again Inv-loop μ-loop
 unfolding byte
@@ -66,6 +67,7 @@ many-end-spec =
     (λ c κs. search needs)
     (λ c. search needs)
     (λ c. search needs)
+    (λ c κs. search needs)
     returns-4
     (λ c. search needs)
     (λ c. search needs)
