@@ -16,4 +16,5 @@ pub mod Proper
 pub mod Accepting
 pub mod Limit
 pub mod Shared
+pub mod Encoding
 pub mod Demands

@@ -3,7 +3,7 @@ use Prim.Native.Nat.{ℕ, _+_, _-_, _^_, _≤_, _<_, min}
 use mathlib.Core.Path.{_≡_}
 use mathlib.Core.Logic.{_↔_, _⊎_}
 use mathlib.Core.Bool.{Bool, true, false}
-use mathlib.Core.List.{List, [], _∷_, _++_, List·Memᴰ}
+use mathlib.Core.List.{List, [], _∷_, _++_, map, flatMap, List·Memᴰ}
 use mathlib.Core.Option.{none, some}
 use lib.ListN.{length, replicate}
 use lib.Dec.{T}
@@ -11,8 +11,10 @@ use Rattle.varint.specs.Outcome.{pass, fail, refused}
 use Rattle.varint.specs.declared.Refusal.{Refusal}
 use Rattle.wire.specs.declared.Field.{Field}
 use Rattle.varint.specs.Lists.{contains}
-use Rattle.varint.specs.Bytes.{Bytes, byte, same, member}
-use Rattle.wire.specs.Wire.{fieldsFrom, fields}
+use Rattle.varint.specs.Bytes.{Bytes, byte, part, same, member}
+use Rattle.varint.specs.Encoding.{Octets}
+use Rattle.wire.specs.Wire.{field, fieldsFrom, fields}
+use Rattle.wire.specs.Encoding.{said, encoded}
 use Rattle.wire.specs.Message.{Message, allOf, firstOf, text, message, whole}
 use Rattle.wire.specs.Order.{Ordered, Gapless}
 use Rattle.operators.specs.Operators.{sound, entriesFrom, entriesAt}
@@ -96,6 +98,23 @@ pub record Faithful (model list : Bytes) (cells : ℕ) : Type 0 where
 
 unfoldable pub Demand3 : Type 0
 Demand3 = (model list : Bytes) (cells : ℕ) → Faithful model list cells
+
+-- ---- one content, one encoding
+
+-- Document 02, Req 07: "Padding alone defeats our content hash." Of a model whose elements are bytes:
+pub record OneEncoding : Type 0 where
+  -- what a field's bytes are follows from its number, wire type, value and contents
+  pub of-field :
+      (model : Bytes) (end pos : ℕ) (f : Field) → Octets model → end ≤ length model → field model end pos ≡ pass f →
+      part pos (f .next - pos) model ≡ encoded (said model f)
+  -- after a passed first walk, what the bytes of each opened message are follows from its fields
+  pub of-message :
+      (model : Bytes) → Octets model → firstWalk model ≡ pass tt → (path : List Field) → Opened model Model (whole model) path →
+      let f = innermost (whole model) path in text model f ≡ flatMap encoded (map (said model) (message model f .fields))
+  -- and so two models that passed are the same bytes if their fields say the same
+  pub of-model :
+      (a b : Bytes) → Octets a → Octets b → firstWalk a ≡ pass tt → firstWalk b ≡ pass tt →
+      map (said a) (message a (whole a) .fields) ≡ map (said b) (message b (whole b) .fields) → a ≡ b
 
 -- ---- the definitions themselves
 

@@ -4,7 +4,7 @@ use Prim.Native.Nat.{ℕ, zero, suc, _+_, _-_, _≤_, _<_}
 use native.Mathlib.Omega.{arith}
 use mathlib.Core.Path.{_≡_, refl, sym, _∙_}
 use mathlib.Core.Bool.{Bool, true, false, not, _&&_}
-use mathlib.Core.List.{List, [], _∷_}
+use mathlib.Core.List.{List, [], _∷_, List·Memᴰ}
 use mathlib.Core.Option.{Option, none, some}
 use lib.Dec.{T, leb, eqb}
 use borrow.Author.Tests.{leb-true}
@@ -112,13 +112,26 @@ module _ (model : Bytes) where
   unfolding walked fields
   walked-gapless kind depth end pos l e = walk-gapless (end - pos) kind depth [] end pos (omega arith) l e
 
+  -- a field of a message lies in it
+  field-fits : (f : Field) {g : Field} → List·Memᴰ g (fields model (f .next) (f .start)) → Fits (f .start) (f .next) g
+  field-fits f m =
+      all-member (Fits (f .start) (f .next)) (fields model (f .next) (f .start))
+      (ordered-all (f .start) (f .next) (fields model (f .next) (f .start)) (fields-ordered model (f .next) (f .start))) m
+
   pub opened-gapless : (kind : Kind) (depth : ℕ) (f : Field) → f .start ≤ f .next → walked model kind depth [] (f .next) (f .start) ≡ pass tt
       → (path : List Field) → Opened model kind f path
       → Gapless (innermost f path .start) (innermost f path .next) (message model (innermost f path) .fields)
   unfolding innermost message
   opened-gapless kind depth f l w [] o = walked-gapless kind depth (f .next) (f .start) l w
   opened-gapless kind depth f l w (g ∷ inner) (m, (k, e, o)) =
-      let inside = all-member (Fits (f .start) (f .next)) (fields model (f .next) (f .start))
-      (ordered-all (f .start) (f .next) (fields model (f .next) (f .start)) (fields-ordered model (f .next) (f .start))) m in
+      let inside = field-fits f m in
       let sound : If (Sound depth g) (some k) = rw e at (all-member (Opens kind depth) (fields model (f .next) (f .start)) (walked-opens kind depth (f .next) (f .start) w) m) in
       opened-gapless k (deeper k depth) g (inside .2) (sound .1) inner o
+
+  -- an opened message lies inside the one around it
+  pub opened-within : (kind : Kind) (f : Field) (size : ℕ) → f .start ≤ f .next → f .next ≤ size
+      → (path : List Field) → Opened model kind f path
+      → (innermost f path .start ≤ innermost f path .next) × (innermost f path .next ≤ size)
+  unfolding innermost message
+  opened-within kind f size l h [] o = (l, h)
+  opened-within kind f size l h (g ∷ inner) (m, (k, e, o)) = let fits = field-fits f m in let stop = fits .3 in opened-within k g size (fits .2) (omega arith) inner o

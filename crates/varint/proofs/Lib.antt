@@ -5,5 +5,6 @@ pub mod Passing
 pub mod VarintLaws
 pub mod Answers
 pub mod ShortestLaws
+pub mod EncodingLaws
 pub mod SliceLaws
 pub mod Refusing

@@ -4,5 +4,6 @@ pub mod Bytes
 pub mod Words
 pub mod Varint
 pub mod Answers
+pub mod Encoding
 pub mod Notation
 pub mod Samples

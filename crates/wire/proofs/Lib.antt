@@ -7,3 +7,4 @@ pub mod QuickLaws
 pub mod MessageLaws
 pub mod Along
 pub mod OutlineLaws
+pub mod EncodingLaws

@@ -6,3 +6,4 @@ pub mod Message
 pub mod Order
 pub mod Samples
 pub mod Outline
+pub mod Encoding

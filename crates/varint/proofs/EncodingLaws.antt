@@ -1,0 +1,116 @@
+-- The bytes of a varint that is not padded are its number's shortest form.
+use Prim.Native.Nat.{ℕ, zero, suc, _+_, _-_, _*_, _/_, _%_, _≤_, _<_}
+use native.Mathlib.Omega.{arith}
+use mathlib.Core.Path.{_≡_, refl, sym, ap, _∙_}
+use mathlib.Core.Bool.{Bool, true, false, not, _||_}
+use mathlib.Core.List.{List, [], _∷_, _++_}
+use lib.Dec.{T, leb, ltb, eqb, nleb→lt, leb→le, nltb→le}
+use lib.ListN.{length, take, drop, length-take, length-drop}
+use lib.Seq.{drop-cons, drop-drop, take-add}
+use borrow.Author.Tests.{ne-eqb, le-ltb, lt-ltb}
+use Rattle.varint.specs.Outcome.{pass, fail, _>>=_, Judged, refuse_at:_when:_}
+use Rattle.varint.specs.Bytes.{Bytes, byte, part}
+use Rattle.varint.specs.Varint.{varintFrom, varint, shortestVarint}
+use Rattle.varint.specs.Encoding.{encodeFrom, encode, Octets}
+use Rattle.varint.specs.declared.Varint.{Varint}
+use Rattle.varint.proofs.Lists.{true-T}
+use Rattle.varint.proofs.Passing.{passed-bind, passed-seq, passed-rule, pass-same, fail-no-pass}
+use Rattle.varint.proofs.ShortestLaws.{shortest-is}
+
+-- ---- parts, one after the other
+
+pub part-join : (s : Bytes) (a b c : ℕ) → a ≤ b → b ≤ c → part a (c - a) s ≡ part a (b - a) s ++ part b (c - b) s
+unfolding part
+part-join s a b c h k =
+    let whole : c - a ≡ (b - a) + (c - b) = omega arith in
+    let there : a + (b - a) ≡ b = omega arith in
+    rw whole (take-add (b - a) (c - b) (drop a s) ∙ ap (λ (x : Bytes). take (b - a) (drop a s) ++ take (c - b) x) (drop-drop (b - a) a s ∙ ap (λ (x : ℕ). drop x s) there))
+
+pub part-first : (s : Bytes) (a c : ℕ) → a < c → a < length s → part a (c - a) s ≡ byte s a ∷ part (a + 1) (c - (a + 1)) s
+unfolding part byte
+part-first s a c h k =
+    let one : c - a ≡ suc (c - (a + 1)) = omega arith in
+    let next : suc a ≡ a + 1 = omega arith in
+    rw one (ap (take (suc (c - (a + 1)))) (drop-cons s a 0 k) ∙ ap (λ (x : ℕ). byte s a ∷ take (c - (a + 1)) (drop x s)) next)
+
+pub part-length : (s : Bytes) (a c : ℕ) → c ≤ length s → length (part a (c - a) s) ≡ c - a
+unfolding part
+part-length s a c h = let n = length-take (c - a) (drop a s) in let m = length-drop a s in omega arith
+
+-- ---- a varint
+
+-- what one byte of a number is, and what is left of it
+low-seven : (b high : ℕ) → 128 ≤ b → b < 256 → (b % 128 + 128 * high) % 128 + 128 ≡ b
+low-seven b high h k = omega arith
+
+high-bits : (b high : ℕ) → (b % 128 + 128 * high) / 128 ≡ high
+high-bits b high = omega arith
+
+module _ (s : Bytes) (octets : Octets s) (place end : ℕ) (inside : end ≤ length s) where
+  -- from a byte that is not the first on, a varint that ends in no 0 is a number above 0
+  Written : (left pos : ℕ) → Varint → Type 0
+  Written left pos v = (pos < v .next) × (v .next ≤ end) × (part pos (v .next - pos) s ≡ encodeFrom left (v .value)) × (left < 10 → 0 < v .value)
+
+  written-last : (left pos : ℕ) (v : Varint) → suc left ≤ 10 → pos < end → byte s pos < 128
+      → v ≡ record { value = byte s pos; next = pos + 1; shortest = eqb left 9 || ltb 0 (byte s pos) } → v .shortest ≡ true
+      → Written (suc left) pos v
+  unfolding Written encodeFrom part
+  written-last left pos v l h k e short =
+      let n : v .next ≡ pos + 1 = ap (λ (x : Varint). x .next) e in
+      let w : v .value ≡ byte s pos = ap (λ (x : Varint). x .value) e in
+      let b : (eqb left 9 || ltb 0 (byte s pos)) ≡ true = sym (ap (λ (x : Varint). x .shortest) e) ∙ short in
+      let bytes = part-first s pos (pos + 1) (omega arith) (omega arith) in
+      let none : pos + 1 - (pos + 1) ≡ 0 = omega arith in
+      (omega arith, omega arith, rw (n, w) (bytes ∙ rw (none, lt-ltb (byte s pos) 128 k, encodeFrom) refl), λ m. rw w (above (ltb 0 (byte s pos)) refl (rw (ne-eqb left 9 (λ z. omega arith)) at b)))
+    where
+      above : (c : Bool) → ltb 0 (byte s pos) ≡ c → c ≡ true → 0 < byte s pos
+      above true e t = leb→le 1 (byte s pos) (true-T _ e)
+      above false e t = absurd (true-T false t)
+
+  written-more : (left pos : ℕ) (v high : Varint) → suc left ≤ 10 → pos < end → 128 ≤ byte s pos
+      → v ≡ record { value = byte s pos % 128 + 128 * high .value; next = high .next; shortest = high .shortest }
+      → Written left (pos + 1) high
+      → Written (suc left) pos v
+  unfolding Written encodeFrom
+  written-more left pos v high l h k e ih =
+      let n : v .next ≡ high .next = ap (λ (x : Varint). x .next) e in
+      let w : v .value ≡ byte s pos % 128 + 128 * high .value = ap (λ (x : Varint). x .value) e in
+      let far = ih .0 in
+      let near = ih .1 in
+      let some : 0 < high .value = ih .3 (omega arith) in
+      let small = octets pos in
+      let big : ltb (byte s pos % 128 + 128 * high .value) 128 ≡ false = le-ltb (byte s pos % 128 + 128 * high .value) 128 (omega arith) in
+      let here = low-seven (byte s pos) (high .value) k small in
+      let up = high-bits (byte s pos) (high .value) in
+      (omega arith, omega arith, rw (n, w) (part-first s pos (high .next) (omega arith) (omega arith) ∙ rw (big, here, up, encodeFrom) (ap (λ (x : Bytes). byte s pos ∷ x) (ih .2))), λ m. omega arith)
+
+  written : (left pos : ℕ) (v : Varint) → left ≤ 10 → varintFrom s left place end pos ≡ pass v → v .shortest ≡ true → Written left pos v
+  unfolding varintFrom
+  written zero pos v l e short = absurd (fail-no-pass _ v e)
+  written (suc left) pos v l e short =
+      let a = passed-seq (refuse 1 at: place when: leb end pos) _ v e in
+      let b = passed-seq _ _ v (a .1) in
+      let h = nleb→lt end pos (passed-rule 1 place (leb end pos) (a .0)) in
+      go (ltb (byte s pos) 128) refl (b .1) h (λ high m q. written left (pos + 1) high (omega arith) m q)
+    where
+      go : (c : Bool) → ltb (byte s pos) 128 ≡ c
+          → _≡_ {A = Judged Varint} (elim c [
+            | true ↦ pass (record { value = byte s pos; next = pos + 1; shortest = eqb left 9 || ltb 0 (byte s pos) })
+            | false ↦ varintFrom s left place end (pos + 1)
+                >>= λ high. pass (record { value = byte s pos % 128 + 128 * high .value; next = high .next; shortest = high .shortest })
+          ]) (pass v)
+          → pos < end
+          → ((high : Varint) → varintFrom s left place end (pos + 1) ≡ pass high → high .shortest ≡ true → Written left (pos + 1) high)
+          → Written (suc left) pos v
+      go true k p h ih = written-last left pos v l h (leb→le (suc (byte s pos)) 128 (true-T _ k)) (sym (pass-same _ v p)) short
+      go false k p h ih =
+          let q = passed-bind (varintFrom s left place end (pos + 1)) _ v p in
+          let same : v ≡ record { value = byte s pos % 128 + 128 * q .0 .value; next = q .0 .next; shortest = q .0 .shortest } = sym (pass-same _ v (q .2)) in
+          let some = sym (ap (λ (x : Varint). x .shortest) same) ∙ short in
+          written-more left pos v (q .0) l h (nltb→le (byte s pos) 128 (rw k tt)) same (ih (q .0) (q .1) some)
+
+  -- "whether the form was the shortest": then it is the form that is written
+  pub varint-written : (pos : ℕ) (v : Varint) → shortestVarint s place end pos ≡ pass v
+      → (pos < v .next) × (v .next ≤ end) × (part pos (v .next - pos) s ≡ encode (v .value))
+  unfolding encode varint Written
+  varint-written pos v e = let k = shortest-is s place end pos v e in let w = written 10 pos v (omega arith) (k .0) (k .1) in (w .0, w .1, w .2)
