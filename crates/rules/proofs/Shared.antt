@@ -16,8 +16,10 @@ use Rattle.wire.specs.Message.{Message, allOf, firstOf, placeOf, text, bytesOf,
 use Rattle.varint.proofs.Lists.{some-same, true-T, or-cases, or-left, or-right, keep-exactly}
 use Rattle.varint.proofs.Bytes.{same→eq, same-exactly, member-exactly}
 use Rattle.wire.proofs.Fields.{message-ordered, keep-ordered, all-of-ordered}
+use Rattle.wire.proofs.PlainLaws.{plain-message}
 use Rattle.schema.specs.declared.Kind.the-variants.{Model}
 use Rattle.schema.specs.FirstWalk.{firstWalk}
+use Rattle.schema.specs.Opened.{innermost}
 use Rattle.schema.proofs.Opened.{opened-gapless}
 use Rattle.schema.specs.Numbers.{Graph·input, ValueInfo·name, Attribute·g, Attribute·graphs}
 use Rattle.rules.specs.Names.{Name, bodiesOf, nameOf, nameIn, inputsOf}
@@ -123,6 +125,7 @@ sharedTrue = record {
   find-misses-none = find-none;
   fields-apart = message-ordered;
   fields-whole = λ model w path o. opened-gapless model Model 0 (whole model) (omega arith) w path o;
+  fields-plain = λ model w path o. plain-message model (innermost (whole model) path) (opened-gapless model Model 0 (whole model) (omega arith) w path o);
   all-of = λ n m f. kept-by (λ g. g .number ≡ n) (λ g. eqb n (g .number)) (m .fields) f (number-test n f);
   all-apart = all-of-ordered;
   bodies-of = λ a f.

@@ -15,6 +15,7 @@ use Rattle.varint.specs.Bytes.{Bytes, byte, part, same, member}
 use Rattle.varint.specs.Encoding.{Octets}
 use Rattle.wire.specs.Wire.{field, fieldsFrom, fields}
 use Rattle.wire.specs.Encoding.{said, encoded}
+use Rattle.wire.specs.Plain.{plainFields}
 use Rattle.wire.specs.Message.{Message, allOf, firstOf, text, message, whole}
 use Rattle.wire.specs.Order.{Ordered, Gapless}
 use Rattle.operators.specs.Operators.{sound, entriesFrom, entriesAt}
@@ -149,6 +150,10 @@ pub record SharedTrue : Type 0 where
   pub fields-whole :
       (model : Bytes) → firstWalk model ≡ pass tt → (path : List Field) → Opened model Model (whole model) path →
       let f = innermost (whole model) path in Gapless (f .start) (f .next) (message model f .fields)
+  -- by a reader that lets padding pass, too: "The runner's own reading does not change."
+  pub fields-plain :
+      (model : Bytes) → firstWalk model ≡ pass tt → (path : List Field) → Opened model Model (whole model) path →
+      let f = innermost (whole model) path in plainFields model (f .next) (f .start) ≡ message model f .fields
   pub all-of : (n : ℕ) (m : Message) (f : Field) → List·Memᴰ f (allOf n m) ↔ (List·Memᴰ f (m .fields) × (f .number ≡ n))
   pub all-apart : (model : Bytes) (n : ℕ) (f : Field) → Ordered (f .start) (f .next) (allOf n (message model f))
   pub bodies-of :

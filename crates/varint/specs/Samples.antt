@@ -7,6 +7,7 @@ use lib.ListN.{length}
 use Rattle.varint.specs.Outcome.{pass, Judged, refused}
 use Rattle.varint.specs.Bytes.{Bytes}
 use Rattle.varint.specs.Varint.{varint, Varint·computes}
+use Rattle.varint.specs.Encoding.{encodeFrom, encode}
 use Rattle.varint.specs.declared.Varint.{Varint}
 use Rattle.varint.specs.Notation.{hex, Notation·computes}
 
@@ -39,3 +40,20 @@ varints =
 varints-hold : map (λ s. varint (s .0) 0 (length (s .0)) 0) varints ≡ map (λ s. s .1) varints
 unfolding varints read padded Notation·computes Varint·computes
 varints-hold = refl
+
+-- Numbers, and how they are written.
+numbers : List (ℕ × Bytes)
+numbers =
+    (0, hex "00")
+    ∷ (127, hex "7F")
+    ∷ (128, hex "80 01")
+    ∷ (150, hex "96 01")
+    ∷ (16383, hex "FF 7F")
+    ∷ (16384, hex "80 80 01")
+    ∷ (2 ^ 63, hex "80 80 80 80 80 80 80 80 80 01")
+    ∷ (2 ^ 64 - 1, hex "FF FF FF FF FF FF FF FF FF 01")
+    ∷ []
+
+numbers-hold : map (λ s. encode (s .0)) numbers ≡ map (λ s. s .1) numbers
+unfolding numbers encodeFrom encode Notation·computes
+numbers-hold = refl

@@ -8,3 +8,4 @@ pub mod MessageLaws
 pub mod Along
 pub mod OutlineLaws
 pub mod EncodingLaws
+pub mod PlainLaws

@@ -4,6 +4,7 @@ pub mod Short
 pub mod Quick
 pub mod Message
 pub mod Order
-pub mod Samples
 pub mod Outline
 pub mod Encoding
+pub mod Plain
+pub mod Samples
