@@ -101,8 +101,8 @@ fn names_are_shown() {
 #[test]
 fn every_rule_is_said() {
     let numbers: Vec<u64> = RULES.iter().map(|r| r.number).collect();
-    let document = [1..=8, 10..=16, 20..=35, 37..=38, 40..=40, 65..=65];
-    assert_eq!(numbers, document.into_iter().flatten().collect::<Vec<u64>>());
+    let documents = [1..=16, 20..=35, 37..=38, 40..=40, 65..=65];
+    assert_eq!(numbers, documents.into_iter().flatten().collect::<Vec<u64>>());
     assert!(RULES.iter().all(|r| !r.name.is_empty() && !r.explanation.is_empty() && !r.explanation.contains('\n')));
     let refusal: Box<dyn std::error::Error> = Box::new(Refusal { number: 30, place: 13 });
     assert_eq!(refusal.to_string(), "refused 30 at 13");
