@@ -57,7 +57,7 @@ static const struct sample {
     {BYTES(M0 "\x9A\x06\x01\x00"), BYTES(L), 0, {0, 0, 0, 0}},
     {BYTES(M0 "\x98\x06" NINE "\x00"), BYTES(L), 0, {9, 11, 0, 0}},
     {BYTES(M0 "\x98\x06" NINE "\x01"), BYTES(L), 0, {0, 0, 0, 0}},
-    /* with another fault: 2 comes before 9, and 9 of a tag before 3, 4 and 5, but 4 and 5 before 9 of a value; 9 before a length's 1 */
+    /* with another fault: 2 before 9; of a tag 9 before 3, 4 and 5, but 4 and 5 before the value's 9; 9 before the 1 of an extent */
     {BYTES("\x88" NINE "\x02"), BYTES(L), 0, {2, 0, 0, 0}},
     {BYTES("\x80\x00\x00"), BYTES(L), 0, {9, 0, 0, 0}},
     {BYTES("\x8A\x00\x00"), BYTES(L), 0, {9, 0, 0, 0}},
