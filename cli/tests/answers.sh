@@ -91,17 +91,16 @@ bad_input() {
 }
 
 padding() {
-    local sound='\x42\x02\x10\x0D\x3A\x03\x12\x01g'
+    local sound='\x42\x02\x10\x0D\x3A\x03\x12\x01g' note='  note   its tag, at 0, takes 2 bytes and needs 1'
     same "padded varints" "$(script padded "$gate" "$root/examples")" "as expected"
     # shellcheck disable=SC2059
     printf "\x88\x00\x08$sound" >padded.onnx && printf "\x08\x08$sound" >shortest.onnx
-    try 1 'padded.onnx: refused 9 at 0'$'\n''  rule   padded: *  where  ir_version'$'\n''  note   its tag, at 0, takes 2 bytes and needs 1*' \
-        '' check padded.onnx
+    try 1 $'padded.onnx: refused 9 at 0\n  rule   padded: *\n  where  ir_version\n'"$note*" '' check padded.onnx
     try 1 $'padded.onnx: refused 9 at 0\n1 accepted, 1 refused, 0 not judged' '' check -q padded.onnx shortest.onnx
     try 1 '' 'padded.onnx: refused 9 at 0*' pass padded.onnx
-    # what is no tag besides, and what is 1 or 2 before it is 9
+    # 9 comes before 3, and after 1 and 2
     printf '\x80\x00' >padded.onnx
-    try 1 '*: refused 9 at 0*  where  model > (unreadable tag)*  note   its tag, at 0, takes 2 bytes and needs 1*' '' check padded.onnx
+    try 1 $'*: refused 9 at 0\n*\n  where  model > (unreadable tag)\n'"$note*" '' check padded.onnx
     printf '\x08\x88\x80' >padded.onnx
     try 1 '*: refused 1 at 0*' '' check padded.onnx
     printf '\x08\x80\x80\x80\x80\x80\x80\x80\x80\x80\x02' >padded.onnx

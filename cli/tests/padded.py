@@ -14,8 +14,9 @@ sys.dont_write_bytecode = True
 sys.path.insert(0, examples)
 from make import INTS, graph, model, node, number, padded, part, typed, varint  # noqa: E402
 
-# of field 99, which no message has, so that nothing but its varints is at fault: tag, value or length, contents
-SHORTEST = [(varint(99 << 3), varint(300), b""), (varint(99 << 3 | 2), varint(200), bytes(200)), (varint(99 << 3 | 5), b"", bytes(4))]
+# field 99, which no message has, so that nothing but its varints is at fault: tag, value or length, contents
+TAG = 99 << 3
+SHORTEST = [(varint(TAG), varint(300), b""), (varint(TAG | 2), varint(200), bytes(200)), (varint(TAG | 5), b"", bytes(4))]
 
 
 def longer(shortest):
