@@ -102,10 +102,9 @@ mod tests {
 
     #[test]
     fn padded_varints() {
-        for (number, bytes) in [(0, 1), (0x7F, 1), (0x80, 2), (0x3FFF, 2), (0x4000, 3), (u64::MAX >> 1, 9)] {
+        for (number, bytes) in [(0, 1), (0x7F, 1), (0x80, 2), (0x3FFF, 2), (0x4000, 3), (u64::MAX >> 1, 9), (1 << 63, 10)] {
             assert_eq!(shortest(number), bytes, "{number}");
         }
-        assert_eq!((shortest(u64::MAX >> 1), shortest(1 << 63), shortest(u64::MAX)), (9, 10, 10));
         assert_eq!(varint(&[0x88, 0x80, 0x00], 0, 3), Some((8, 3)));
         // field 1 of two bytes, in a tag of two and a length of three
         let f = field(&[0x8A, 0, 0x82, 0x80, 0, 7, 7], 0, 7).unwrap();
