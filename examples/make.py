@@ -7,7 +7,7 @@ import sys
 from pathlib import Path
 
 FLOAT, INT64, BOOL = 1, 7, 9  # data types
-INT, GRAPH = 2, 5  # attribute types
+INT, GRAPH, INTS = 2, 5, 7  # attribute types
 
 
 def varint(value):
@@ -18,6 +18,11 @@ def varint(value):
         value >>= 7
     out.append(value)
     return bytes(out)
+
+
+def padded(value, size):
+    """A varint of so many bytes, more than it needs: as programs write that leave room for a length and fill it in later."""
+    return bytes(value >> 7 * i & 0x7F | 0x80 for i in range(size - 1)) + b"\0"
 
 
 def number(field, value):
@@ -59,6 +64,12 @@ def graph_output(name, **kind):
 
 def initializer(name, data_type=FLOAT, dims=(), raw=bytes(4)):
     return part(5, b"".join(number(1, d) for d in dims) + number(2, data_type) + part(8, name) + part(9, raw))
+
+
+def padded_length(name):
+    """A tensor whose length takes as many bytes as the longest."""
+    contents = number(2, FLOAT) + part(8, name) + part(9, bytes(4))
+    return varint(5 << 3 | 2) + padded(len(contents), 5) + contents
 
 
 def too_short(name):
@@ -144,6 +155,8 @@ MODELS = {
     "ok-tagger": tagger(),
     "ok-network": model(chain()),
     "ok-default-value": model(chain(inputs=[graph_input("x"), graph_input("w", dims=(4, 4))])),
+    "ok-padded-ints": model(
+        layer(node("Transpose", ["x"], ["y"], part(1, "perm") + part(8, padded(1, 2) + padded(0, 3)) + number(20, INTS)))),
     "ok-classifier": model(
         layer(node("Scaler", ["x"], ["y"], domain="ai.onnx.ml")), imports=imported() + imported("ai.onnx.ml", 3)),
     "01-truncated": model(chain())[:150],
@@ -152,6 +165,10 @@ MODELS = {
     "04-wrong-field": number(1, 8) + number(7, 1),
     "05-two-graphs": model(chain(), more=part(7, chain())),
     "06-too-deep": nested(9),
+    "09-padded-length": model(layer(padded_length("b"), DENSE, RELU)),
+    "09-padded-tag": model(chain(), imports=part(8, padded(2 << 3, 2) + varint(13))),
+    "09-padded-value": model(
+        layer(node("Softmax", ["x"], ["y"], part(1, "axis") + varint(3 << 3) + padded(1, 2) + number(20, INT)))),
     "10-old-ir-version": model(chain(), ir_version=3),
     "10-empty": b"",
     "11-no-graph": number(1, 8) + imported(),

@@ -43,7 +43,7 @@ def main():
         wrong += [f"{language}: {table.get(n)}, Rust: {rust.get(n)} for {n}" for n in rust.keys() | table if table.get(n) != rust.get(n)]
     if len(set(versions().values())) != 1:
         wrong.append(f"versions: {versions()}")
-    if wrong or len(rust) < 35:
+    if wrong or len(rust) < 36:
         sys.exit("\n".join(["same_rules.py: the bindings differ", *wrong]))
     print(f"{len(rust)} refusals and the version are the same in C, Rust and Python")
 

@@ -32,8 +32,9 @@ struct onnx_gate_answer {
     uint64_t names;   /* accepted: the most names visible together. With fewer cells than this the model is refused with 40. */
 };
 
-/* The refusals. Of several that apply the first is told: 65, which is for onnx_gate_check_indexed only; 7; 8; the first of 1 to 6 in
- * the order of the bytes; then 10 to 40, as document 01 orders them. */
+/* The refusals. Of several that apply the first is told: 65, which is for onnx_gate_check_indexed only; 7; 8; the first of 1 to 6
+ * and 9 in the order of the bytes, of a tag as 1, 2, 9, 3, 4, 5 and of the value or length behind it as 1, 2, 9, 1, 6; then 10 to 40,
+ * as document 01 orders them. */
 enum onnx_gate_refusal {
     ONNX_GATE_ACCEPTED = 0,
     ONNX_GATE_PAST_END = 1,             /* a varint, value or length runs past the end of its message */
@@ -44,6 +45,7 @@ enum onnx_gate_refusal {
     ONNX_GATE_TOO_DEEP = 6,             /* graphs are nested more than 8 deep, the main graph being the first */
     ONNX_GATE_MODEL_TOO_LARGE = 7,      /* the model has more than 2,147,483,647 bytes */
     ONNX_GATE_LIST_UNSOUND = 8,         /* the operator list is not in its format, or has a domain twice */
+    ONNX_GATE_PADDED = 9,               /* a tag, value or length is padded: a varint of more than one byte that ends in 0 */
     ONNX_GATE_BAD_IR_VERSION = 10,      /* ir_version must be 4 to 10 */
     ONNX_GATE_NO_GRAPH = 11,            /* the model has no graph */
     ONNX_GATE_NO_OPSET_IMPORT = 12,     /* the model has no opset_import */

@@ -20,8 +20,10 @@ struct onnx_gate_need {
 };
 
 /* Counts in one pass over the model, any bytes at all, that skips what tensors hold and allocates nothing. Both are 0 where it sees
- * that no name is ever kept: the model is refused with one of 1, 2, 3, 6 and 7. Where more than 65,536 names of lists are counted the
- * library itself is asked, in no cells, whether the model is refused before its imports; then both are 0 as well.
+ * that no name is ever kept: the model has more bytes than any that is accepted, or a fault that is told with 1, 2, 3 or 6, if no
+ * other stands before it. Padding is not looked for, so that what the library refuses with 9 is counted as it stands. Where more
+ * than 65,536 names of lists are counted the library itself is asked, in no cells, whether the model is refused before its imports;
+ * then both are 0 as well.
  *
  * A file may claim many names and be refused at the first of them. So begin with some thousand cells where `names` is more, and
  * lend more, eight times as many, as long as the answer is 40: any other answer is the same with more cells. example.c does so.

@@ -10,6 +10,11 @@
 #define M0 "\x08\x08\x42\x02\x10\x0D\x3A\x03\x12\x01\x67"
 #define M1 "\x08\x08\x42\x02\x10\x0D\x3A\x0B\x12\x01\x67\x0A\x06\x12\x01\x61\x22\x01\x58"
 #define NINE "\xFF\xFF\xFF\xFF\xFF\xFF\xFF\xFF\xFF"
+#define GRAPH "\x3A\x03\x12\x01\x67" /* that of M0 */
+/* M1 with an attribute of type 7, and the lengths that this makes */
+#define INTS(graph, node, attribute, ints)                                                                                         \
+    "\x08\x08\x42\x02\x10\x0D\x3A" graph "\x12\x01\x67\x0A" node "\x12\x01\x61\x22\x01\x58\x2A" attribute                           \
+    "\x0A\x01\x6B\xA0\x01\x07" ints
 
 /* a string's bytes and their number, without the 0 that C puts at its end */
 #define BYTES(s) (s), sizeof(s) - 1
@@ -40,6 +45,30 @@ static const struct sample {
     {BYTES(M0), BYTES("\x00\x00\x00\x01\x01"), 0, {14, 2, 0, 0}},
     {BYTES(M0), BYTES("\x00\x00\x00\x01\x02"), 0, {8, 0, 0, 0}},
     {BYTES(M0), NULL, 0, 3, {8, 0, 0, 0}},
+    /* padded: a tag, a value, a length, and a value inside a message; then of a field that no row names, beside its shortest form */
+    {BYTES("\x88\x00\x08\x42\x02\x10\x0D" GRAPH), BYTES(L), 0, {9, 0, 0, 0}},
+    {BYTES("\x08\x88\x00\x42\x02\x10\x0D" GRAPH), BYTES(L), 0, {9, 0, 0, 0}},
+    {BYTES("\x08\x08\x42\x82\x00\x10\x0D" GRAPH), BYTES(L), 0, {9, 2, 0, 0}},
+    {BYTES("\x08\x08\x42\x03\x10\x8D\x00" GRAPH), BYTES(L), 0, {9, 4, 0, 0}},
+    {BYTES(M0 "\x98\x86\x00\x01"), BYTES(L), 0, {9, 11, 0, 0}},
+    {BYTES(M0 "\x98\x06\x81\x00"), BYTES(L), 0, {9, 11, 0, 0}},
+    {BYTES(M0 "\x98\x06\x01"), BYTES(L), 0, {0, 0, 0, 0}},
+    {BYTES(M0 "\x9A\x06\x81\x00\x00"), BYTES(L), 0, {9, 11, 0, 0}},
+    {BYTES(M0 "\x9A\x06\x01\x00"), BYTES(L), 0, {0, 0, 0, 0}},
+    {BYTES(M0 "\x98\x06" NINE "\x00"), BYTES(L), 0, {9, 11, 0, 0}},
+    {BYTES(M0 "\x98\x06" NINE "\x01"), BYTES(L), 0, {0, 0, 0, 0}},
+    /* with another fault: 2 before 9; of a tag 9 before 3, 4 and 5, but 4 and 5 before the value's 9; 9 before the 1 of an extent */
+    {BYTES("\x88" NINE "\x02"), BYTES(L), 0, {2, 0, 0, 0}},
+    {BYTES("\x80\x00\x00"), BYTES(L), 0, {9, 0, 0, 0}},
+    {BYTES("\x8A\x00\x00"), BYTES(L), 0, {9, 0, 0, 0}},
+    {BYTES("\x0A\x80\x00"), BYTES(L), 0, {4, 0, 0, 0}},
+    {BYTES("\x08\x08\x88\x00\x08"), BYTES(L), 0, {9, 2, 0, 0}},
+    {BYTES("\x08\x08\x08\x88\x00"), BYTES(L), 0, {5, 2, 0, 0}},
+    {BYTES("\x3A\x81\x00"), BYTES(L), 0, {9, 0, 0, 0}},
+    {BYTES("\x3A\x01"), BYTES(L), 0, {1, 0, 0, 0}},
+    /* padded ints of an attribute: packed ones are not opened */
+    {BYTES(INTS("\x17", "\x12", "\x0A", "\x42\x02\x81\x00")), BYTES(L), 1, {0, 0, 1, 1}},
+    {BYTES(INTS("\x16", "\x11", "\x09", "\x40\x81\x00")), BYTES(L), 1, {9, 27, 0, 0}},
 };
 
 /* The largest size: an initializer first, whose lengths end in these bytes, and last in the graph and in the model what is given. */

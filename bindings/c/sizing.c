@@ -23,7 +23,7 @@ struct field {
     size_t start, end; /* of its contents, which a varint has none of */
 };
 
-/* Reads a varint and moves on behind it; 0 where it does not end. */
+/* Reads a varint, padded or not, and moves on behind it; 0 where it does not end. */
 static int read_varint(const uint8_t *model, size_t *at, size_t end, uint64_t *value)
 {
     int shift;
@@ -117,7 +117,7 @@ static size_t least(size_t one, size_t other)
 }
 
 /* Whether the library refuses a model before it keeps a name. Where no operators are allowed it refuses the first import with 14, and
- * every other answer comes before that. */
+ * every other answer, 9 among them, comes before that. */
 static int keeps_nothing(const uint8_t *model, size_t model_length)
 {
     static const uint8_t no_operators[] = {0, 0, 0, 1, 1};

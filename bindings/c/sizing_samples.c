@@ -35,7 +35,7 @@ static const struct {
     {BYTES("\x3A\x0C\x5A\x00\x5A\x00\x5A\x00\x5A\x00\x2A\x00\x2A\x00"), {2, 0}}, /* inputs with no bytes */
     {BYTES("\x3A\x08\x2A\x00\x2A\x00\x2A\x00\x2A\x00"), {3, 0}},        /* 10 / 3 */
     {BYTES("\x3A\x0D\x0A\x0B\x1A\x01n\x1A\x01m\x1A\x01o\x1A\x00"), {0, 2}}, /* 15 / 7 */
-    {BYTES("\xC2\x80\x80\x80\x00\x85\x80\x00\x0A\x01x\x10\x0D"), {0, 1}}, /* a padded tag and length */
+    {BYTES("\xC2\x80\x80\x80\x00\x85\x80\x00\x0A\x01x\x10\x0D"), {0, 1}}, /* a padded tag and length count, too */
     {BYTES(ENTRY "\x79" "12345678" "\x7D" "1234" "\x78\xFF\x01" ENTRY), {0, 2}}, /* unknown fields */
     {BYTES("\x9A\x06\x07" ENTRY ENTRY), {0, 1}},                        /* inside an unknown one nothing is counted */
     {BYTES("\xDA\x10\x01x"), {0, 0}},                                  /* field 267 of a model is no field 11 of a graph */
@@ -100,23 +100,24 @@ static void check_changes(uint8_t *page)
     expect(accepted > length, "accepted changes", accepted);
 }
 
-/* A tag, and a length in five bytes. */
-static void put_head(uint8_t *at, uint8_t tag, size_t length)
+/* A tag, and a length in so many bytes. */
+static void put_head(uint8_t *at, uint8_t tag, size_t length, size_t bytes)
 {
     size_t i;
     *at = tag;
-    for (i = 0; i < 5; i++)
-        at[1 + i] = (uint8_t)((length >> 7 * i & 0x7F) | (i < 4 ? 0x80 : 0));
+    for (i = 0; i < bytes; i++)
+        at[1 + i] = (uint8_t)((length >> 7 * i & 0x7F) | (i + 1 < bytes ? 0x80 : 0));
 }
 
-/* So many graphs in graphs, each the body of an attribute of eight bytes or more; each length takes five bytes. */
+/* So many graphs in graphs, each the body of an attribute of eight bytes or more; each length takes five bytes, which the count lets
+ * pass. */
 static struct onnx_gate_need nested(uint8_t *space, size_t depth)
 {
     static const uint8_t tags[] = {0x0A, 0x2A, 0x32};
     size_t at = 65536, end = at, level;
     for (level = 3 * depth - 2; level > 0; level--) {
         at -= 6;
-        put_head(space + at, level == 1 ? 0x3A : tags[(level - 2) % 3], end - at - 6);
+        put_head(space + at, level == 1 ? 0x3A : tags[(level - 2) % 3], end - at - 6, 5);
     }
     return onnx_gate_needed(space + at, end - at);
 }
@@ -128,37 +129,39 @@ static void check_depth(uint8_t *space)
     expect(nine.lists == 0 && many.lists == 0, "depth", 9);
 }
 
-/* Of a model with this ir_version, so many initializers, and one name of its graph or two. */
-static struct onnx_gate_need of_many(uint8_t *model, uint8_t ir_version, size_t count, size_t names)
+/* Of a model with this ir_version, so many initializers, and one name of its graph or two. The graph's length needs three bytes. */
+static struct onnx_gate_need of_many(uint8_t *model, uint8_t ir_version, size_t count, size_t names, size_t bytes)
 {
-    size_t graph = 7 * count + 3 * names, i;
+    size_t graph = 7 * count + 3 * names, at = 7 + bytes, i;
     memcpy(model, "\x08\x08\x42\x02\x10\x0D", 6);
     model[1] = ir_version;
-    put_head(model + 6, 0x3A, graph);
+    put_head(model + 6, 0x3A, graph, bytes);
     for (i = 0; i < count; i++)
-        memcpy(model + 12 + 7 * i, TENSOR, 7);
-    memcpy(model + 12 + 7 * count, "\x12\x01g\x12\x01g", 3 * names);
-    return onnx_gate_needed(model, 12 + graph);
+        memcpy(model + at + 7 * i, TENSOR, 7);
+    memcpy(model + at + 7 * count, "\x12\x01g\x12\x01g", 3 * names);
+    return onnx_gate_needed(model, at + graph);
 }
 
-/* From 65,537 names of lists on the library is asked whether it keeps one. It does not where it refuses with 5, or with 10. */
+/* From 65,537 names of lists on the library is asked whether it keeps one. It does not where it refuses with 5, 9 or 10. */
 static void check_long_lists(uint8_t *model)
 {
-    struct onnx_gate_need unasked = of_many(model, 8, 65536, 2), kept = of_many(model, 8, 65537, 1);
-    struct onnx_gate_need twice = of_many(model, 8, 65537, 2), old = of_many(model, 3, 65537, 1);
+    struct onnx_gate_need unasked = of_many(model, 8, 65536, 2, 3), kept = of_many(model, 8, 65537, 1, 3);
+    struct onnx_gate_need twice = of_many(model, 8, 65537, 2, 3), old = of_many(model, 3, 65537, 1, 3);
+    struct onnx_gate_need padded = of_many(model, 8, 65537, 1, 4);
     expect(unasked.names == 65536 && unasked.lists == 65536, "long lists", 65536);
     expect(kept.names == 65537 && kept.lists == 65537, "long lists", 65537);
     expect(twice.names == 0 && twice.lists == 0, "long lists, refused with", 5);
+    expect(padded.names == 0 && padded.lists == 0, "long lists, refused with", 9);
     expect(old.names == 0 && old.lists == 0, "long lists, refused with", 10);
 }
 
 /* Of a model of so many bytes: an initializer, whose contents reach up to an import. What is not written takes no memory. */
 static struct onnx_gate_need of_large(uint8_t *model, size_t length)
 {
-    put_head(model, 0x3A, length - 7 - 6);
-    put_head(model + 6, 0x2A, length - 7 - 12);
+    put_head(model, 0x3A, length - 7 - 6, 5);
+    put_head(model + 6, 0x2A, length - 7 - 12, 5);
     memcpy(model + 12, "\x42\x01w", 3);
-    put_head(model + 15, 0x4A, length - 7 - 21);
+    put_head(model + 15, 0x4A, length - 7 - 21, 5);
     memcpy(model + length - 7, ENTRY, 7);
     return onnx_gate_needed(model, length);
 }

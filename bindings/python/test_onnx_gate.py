@@ -20,6 +20,25 @@ class Samples(unittest.TestCase):
         self.assertEqual(self.line(M1, 0), "refused 40 at 13")
         self.assertEqual(self.line(M1, None), "accepted nodes 1 names 1")
 
+    def test_padded_varints(self):
+        """A tag, a value and a length, in what is opened and of fields that no row names; beside each its shortest form."""
+        for place, padded, shortest in (
+            (0, "8800 08 4202100D 3A03120167", "0808 4202100D 3A03120167"),
+            (0, "08 8800 4202100D 3A03120167", "0808 4202100D 3A03120167"),
+            (2, "0808 42 8200 100D 3A03120167", "0808 4202100D 3A03120167"),
+            (4, "0808 4203 10 8D00 3A03120167", "0808 4202100D 3A03120167"),
+            (11, "0808 4202100D 3A03120167 988600 01", "0808 4202100D 3A03120167 9806 01"),
+            (11, "0808 4202100D 3A03120167 9806 8100", "0808 4202100D 3A03120167 9806 01"),
+            (11, "0808 4202100D 3A03120167 9A06 8100 00", "0808 4202100D 3A03120167 9A06 01 00"),
+        ):
+            answer = onnx_gate.check(bytes.fromhex(padded), LIST)
+            self.assertEqual((str(answer), answer.rule), (f"refused 9 at {place}", "padded"), padded)
+            self.assertIn("a varint of more than one byte that ends in 0", answer.explanation)
+            self.assertEqual(self.line(bytes.fromhex(shortest), 0), "accepted nodes 0 names 0")
+        longest = bytes.fromhex("0808 4202100D 3A03120167 9806") + 9 * b"\xff"
+        self.assertEqual(self.line(longest + b"\x01", 0), "accepted nodes 0 names 0")
+        self.assertEqual(self.line(longest + b"\x00", 0), "refused 9 at 11")
+
     def test_answers(self):
         accepted, refused = onnx_gate.check(M1, LIST), onnx_gate.check(bytearray(M1), b"")
         self.assertTrue(accepted and not refused)

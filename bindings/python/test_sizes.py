@@ -20,26 +20,32 @@ HEADER = bytes.fromhex("0808 4202100D")
 MOST = onnx_gate.LARGEST_MODEL
 
 
-def head(number, length):
-    """Of a field of bytes, with a length of five."""
-    return bytes([number << 3 | 2]) + bytes(length >> 7 * i & 0x7F | (0x80 if i < 4 else 0) for i in range(5))
+def varint(value):
+    """In its shortest form: another one is refused."""
+    return bytes([value]) if value < 0x80 else bytes([value & 0x7F | 0x80]) + varint(value >> 7)
 
 
 def part(number, contents):
-    return head(number, len(contents)) + contents
+    """A field of bytes."""
+    return bytes([number << 3 | 2]) + varint(len(contents)) + contents
 
 
 def graph(contents):
     return HEADER + part(7, b"\x12\x01g" + contents)
 
 
-def outputs(count, padding=0):
-    """A node with so many outputs, of nine bytes each from byte 24 on, and a doc string."""
-    return graph(part(1, b"\x22\x01X" + b"".join(b"\x12\x07v%06x" % i for i in range(count)))) + part(6, bytes(padding))
+def outputs(count, doc_string=0):
+    """A node with so many outputs, and a doc string of so many bytes."""
+    return graph(part(1, b"\x22\x01X" + b"".join(b"\x12\x07v%06x" % i for i in range(count)))) + part(6, bytes(doc_string))
+
+
+def full(model, count):
+    """That there is no cell for an output, counted from 0."""
+    return f"refused 40 at {model.index(b'v%06x' % count) - 2}"
 
 
 def tensors(count, last=b""):
-    """So many initializers, of 13 bytes each from byte 15 on, and what the graph ends with."""
+    """So many initializers, and what the graph ends with, and the model."""
     return graph(b"".join(b"\x2a\x0b\x42\x07w%06x\x10\x01" % i for i in range(count)) + last)
 
 
@@ -57,39 +63,44 @@ def needed(model):
 
 class Sizes(unittest.TestCase):
     def test_as_many_as_are_counted(self):
-        for padding in 0, 5_000_000:
-            model = outputs(5000, padding)
+        for doc_string in 0, 5_000_000:
+            model = outputs(5000, doc_string)
             self.assertEqual(lent(model), ("accepted nodes 1 names 5000", [(5000, 20_002)]))
-            self.assertEqual(lent(model, cells=4999), (f"refused 40 at {24 + 4999 * 9}", [(4999, 19_998)]))
+            self.assertEqual(lent(model, cells=4999), (full(model, 4999), [(4999, 19_998)]))
         self.assertEqual(lent(tensors(100)), ("accepted nodes 0 names 100", [(100, 400 + 2 + 400)]))
         self.assertEqual(lent(b""), ("refused 10 at 0", [(0, 2)]))
 
     def test_more_after_a_40(self):
-        answer, cells = lent(outputs(600_000))
+        model = outputs(600_000)
+        answer, cells = lent(model)
         self.assertEqual(answer, "accepted nodes 1 names 600000")
         self.assertEqual(cells, [(count, 4 * count + 2) for count in (65_536, 524_288, 600_000)])
-        answer, cells = lent(outputs(600_000), cells=100_000)
-        self.assertEqual((answer, [count for count, _ in cells]), (f"refused 40 at {24 + 100_000 * 9}", [65_536, 100_000]))
+        answer, cells = lent(model, cells=100_000)
+        self.assertEqual((answer, [count for count, _ in cells]), (full(model, 100_000), [65_536, 100_000]))
 
     def test_a_count_that_is_too_low(self):
-        for names, tries in (0, [0, 210_010]), (60_000, [60_000, 210_010]), (69_999, [65_536, 69_999, 210_010]):
+        model = outputs(70_000)
+        most = len(model) // 3
+        for names, tries in (0, [0, most]), (60_000, [60_000, most]), (69_999, [65_536, 69_999, most]):
             with mock.patch.object(_library, "needed", return_value=_library.Need(names, 0)):
-                answer, cells = lent(outputs(70_000))
+                answer, cells = lent(model)
             self.assertEqual((answer, [count for count, _ in cells]), ("accepted nodes 1 names 70000", tries))
 
     def test_claims(self):
         """A file that claims many names and is refused at the first gets room for few."""
         inputs = graph(b"\x5a\x03\x0a\x01i" * 200_000)
-        self.assertEqual(lent(inputs), ("refused 24 at 15", [(65_536, 4 * 65_536 + 2)]))
+        self.assertEqual(lent(inputs), (f"refused 24 at {inputs.index(0x5A)}", [(65_536, 4 * 65_536 + 2)]))
         attributes = graph(part(1, b"\x22\x01X" + b"\x2a\x00" * 200_000))
-        self.assertEqual(lent(attributes), ("refused 22 at 24", [(0, 2)]))
+        self.assertEqual(lent(attributes), (f"refused 22 at {attributes.index(0x2A)}", [(0, 2)]))
 
     def test_lists_that_are_never_read(self):
         """More than 65,536 names of lists get room only where the library comes so far as to read them."""
         count = 70_000
         self.assertEqual(lent(tensors(count))[1][0], (65_536, 4 * 65_536 + 2 + 4 * count))
-        twice, empty = b"\x12\x01g", b"\x00\x00\x00\x01\x01"
-        self.assertEqual(lent(tensors(count, twice)), (f"refused 5 at {15 + 13 * count}", [(0, 2)]))
+        twice, padded, empty = b"\x12\x01g", b"\x52\x80\x00", b"\x00\x00\x00\x01\x01"
+        for number, last in (5, twice), (9, padded):
+            model = tensors(count, last)
+            self.assertEqual(lent(model), (f"refused {number} at {len(model) - 3}", [(0, 2)]))
         self.assertEqual(lent(b"\x08\x03" + tensors(count)[2:]), ("refused 10 at 0", [(0, 2)]))
         self.assertEqual(lent(tensors(count, twice), b""), ("refused 8 at 0", [(0, 2)]))
         self.assertEqual(lent(tensors(count), empty)[0], "refused 14 at 2")
@@ -121,10 +132,11 @@ class Mapped(unittest.TestCase):
     def test_answers(self):
         with mock.patch.object(_library, "_FEW", 0):
             for count in 1, 100, 5000:
-                self.assertEqual(str(onnx_gate.check(outputs(count), LIST)), f"accepted nodes 1 names {count}")
-                self.assertEqual(str(onnx_gate.check(outputs(count), LIST, count - 1)), f"refused 40 at {15 + 9 * count}")
+                model = outputs(count)
+                self.assertEqual(str(onnx_gate.check(model, LIST)), f"accepted nodes 1 names {count}")
+                self.assertEqual(str(onnx_gate.check(model, LIST, count - 1)), full(model, count - 1))
             self.assertEqual(str(onnx_gate.check(outputs(3), LIST, 3, 11)), "refused 65 at 0")
-            self.assertEqual(str(onnx_gate.check(outputs(3), LIST, 0, 1)), "refused 40 at 24")
+            self.assertEqual(str(onnx_gate.check(outputs(3), LIST, 0, 1)), full(outputs(3), 0))
 
     def test_no_memory(self):
         for cells, extra in (2**48, 0), (0, 2**60), (2**61, 2**63), (2**63, 0), (2**64 - 1, 2**64 - 1):
@@ -235,9 +247,9 @@ class Memory(unittest.TestCase):
         """Millions of names of lists get room, 16 bytes each. It is real only where one is kept, and here the second is refused."""
         attributes = b"\x12\x01y\x22\x01X" + b"\x2a\x06\x0a\x01a\xa0\x01\x01" * 7_500_000
         for expected, contents in (
-            ("refused 31 at 37", part(1, attributes)),
-            ("refused 23 at 24", b"\x2a\x05\x42\x01w\x10\x01" * 8_570_000),
-            ("refused 29 at 29", b"\x0a\x08\x12\x00\x1a\x01n\x22\x01X" * 6_000_000),
+            ("refused 31 at 35", part(1, attributes)),
+            ("refused 23 at 23", b"\x2a\x05\x42\x01w\x10\x01" * 8_570_000),
+            ("refused 29 at 28", b"\x0a\x08\x12\x00\x1a\x01n\x22\x01X" * 6_000_000),
         ):
             with tempfile.TemporaryDirectory() as folder:
                 path = Path(folder) / "model.onnx"

@@ -64,7 +64,8 @@ fn found<'a>(given: &Given<'a>, refusal: Refusal) -> Explanation<'a> {
     if lacks_a_field(refusal.number, &path) {
         path = Path::default();
     }
-    if refusal.number == 3 {
+    // a padded tag may be none besides, and is refused for its padding first
+    if refusal.number == 3 || refusal.number == 9 && path.target().is_some_and(|t| !t.field.has_tag()) {
         path.without_tag();
     }
     let name = name(given.model, refusal.number, &path);
@@ -139,6 +140,31 @@ mod tests {
     }
 
     #[test]
+    fn what_is_padded() {
+        let graph = "3A 05 12 83 00 61 62 63";
+        for (hex, place, path, note, field) in [
+            ("88 00 08", 0, "ir_version", "its tag, at 0, takes 2 bytes and needs 1", 0..3),
+            ("08 88 80 00", 0, "ir_version", "its value, at 1, takes 3 bytes and needs 1", 0..4),
+            (graph, 2, "graph > name", "its length, at 3, takes 2 bytes and needs 1", 2..7),
+            // and too long
+            ("3A 81 80 00", 0, "graph", "its length, at 1, takes 3 bytes and needs 1", 0..4),
+            // both, of which the tag comes first; and fields that onnx.proto does not have
+            ("BA 80 00 80 00", 0, "graph", "its tag, at 0, takes 3 bytes and needs 1", 0..5),
+            ("9D 86 00 01 02 03 04", 0, "field 99", "its tag, at 0, takes 3 bytes and needs 2", 0..7),
+            ("9A 06 81 00 07", 0, "field 99", "its length, at 2, takes 2 bytes and needs 1", 0..5),
+            // no tag besides: field 0, wire type 3, and above 2^32 - 1
+            ("80 00 01 02", 0, "model > (unreadable tag)", "its tag, at 0, takes 2 bytes and needs 1", 0..2),
+            ("8B 00 01 02", 0, "model > (unreadable tag)", "its tag, at 0, takes 2 bytes and needs 1", 0..2),
+            ("88 80 80 80 90 00 08", 0, "model > (unreadable tag)", "its tag, at 0, takes 6 bytes and needs 5", 0..6),
+        ] {
+            let model = bytes(hex);
+            let e = explained(&model, 9, place);
+            assert_eq!((e.path.as_deref(), e.name, e.window.unwrap().field), (Some(path), None, field), "{hex}");
+            assert_eq!(e.notes, [note], "{hex}");
+        }
+    }
+
+    #[test]
     fn what_the_model_lacks() {
         assert_eq!(explained(&[], 10, 0).path.as_deref(), Some("model"));
         let model = bytes("42 02 10 0D");
@@ -193,13 +219,14 @@ mod tests {
                 let path = path::find(&model, refusal.place);
                 let known = path.exact || path.unreadable || lacks_a_field(refusal.number, &path);
                 assert!(known, "{refusal} of {model:02x?}");
-                found(&Given { model: &model, operators: &list, cells: 8 }, refusal);
+                let notes = found(&Given { model: &model, operators: &list, cells: 8 }, refusal).notes;
+                assert!(refusal.number != 9 || notes.len() == 1, "{refusal} of {model:02x?}: {notes:?}");
             }
         }
         assert!(met.len() >= 30, "{met:?}");
     }
 
-    /// Messages in messages, deeper than any that the library opens.
+    /// Messages in messages, deeper than any that the library opens. Some lengths are padded, and read all the same.
     fn model_of_nested_bytes() -> Vec<u8> {
         let put = |tag: u8, inner: Vec<u8>| {
             let length = [(inner.len() & 0x7F) as u8 | 0x80, (inner.len() >> 7) as u8 & 0x7F];

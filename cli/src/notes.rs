@@ -24,6 +24,7 @@ pub fn of(given: &Given, refusal: Refusal, path: &Path, name: Option<&[u8]>) -> 
         3 => no_tag(given.model, refusal.place),
         4 => target.map(|t| format!("it has wire type {}", t.field.wire)),
         5 => target.and_then(|t| earlier(given.model, t, |f| f.number == t.field.number)),
+        9 => padded(given.model, refusal.place),
         10 => Some(value("ir_version", target.filter(|t| t.is(Kind::Model, 1)))),
         29 | 31 => path.steps.iter().nth_back(1).and_then(|t| namesake(given.model, t)),
         13 | 14 => target.and_then(|t| import(given, refusal.number, t)),
@@ -50,6 +51,21 @@ fn too_long(target: &Step) -> Option<String> {
 fn no_tag(model: &[u8], place: usize) -> Option<String> {
     let (tag, _) = wire::varint(model, place, model.len())?;
     Some(format!("as a tag it says field {} of wire type {}", tag >> 3, tag & 7))
+}
+
+/// Which varint of the field is padded. That of its tag is told first.
+fn padded(model: &[u8], place: usize) -> Option<String> {
+    let (tag, next) = wire::varint(model, place, model.len())?;
+    let longer = |what: &str, at: usize| {
+        let (number, end) = wire::varint(model, at, model.len())?;
+        let (takes, needs) = (end - at, wire::shortest(number));
+        (takes > needs).then(|| format!("its {what}, at {at}, takes {takes} bytes and needs {needs}"))
+    };
+    longer("tag", place).or_else(|| match tag & 7 {
+        0 => longer("value", next),
+        2 => longer("length", next),
+        _ => None,
+    })
 }
 
 /// The first field before `step` in its message that is alike.

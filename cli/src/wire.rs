@@ -14,7 +14,14 @@ pub struct Field {
     pub varint: u64,
 }
 
-/// A varint inside `bytes[at..end]`, and where it ends.
+impl Field {
+    /// Whether what stands for its tag is one, by its number and its wire type.
+    pub fn has_tag(&self) -> bool {
+        (1..1 << 29).contains(&self.number) && matches!(self.wire, 0 | 1 | 2 | 5)
+    }
+}
+
+/// A varint inside `bytes[at..end]`, padded or not, and where it ends.
 pub fn varint(bytes: &[u8], at: usize, end: usize) -> Option<(u64, usize)> {
     let mut value = 0u64;
     for (i, byte) in bytes.get(at..end)?.iter().take(10).enumerate() {
@@ -24,6 +31,11 @@ pub fn varint(bytes: &[u8], at: usize, end: usize) -> Option<(u64, usize)> {
         }
     }
     None
+}
+
+/// How many bytes the varint of a number needs.
+pub fn shortest(number: u64) -> usize {
+    (1..10).find(|bytes| number >> (7 * bytes) == 0).unwrap_or(10)
 }
 
 /// The field at `at` of a message that ends at `end`.
@@ -86,6 +98,20 @@ mod tests {
         assert_eq!(varint(&longest, 0, 10), Some((u64::MAX, 10)));
         assert_eq!(varint(&[0xFF; 11], 0, 11), None);
         assert_eq!(varint(&[], 5, 3), None);
+    }
+
+    #[test]
+    fn padded_varints() {
+        for (number, bytes) in [(0, 1), (0x7F, 1), (0x80, 2), (0x3FFF, 2), (u64::MAX >> 1, 9), (1 << 63, 10)] {
+            assert_eq!(shortest(number), bytes, "{number}");
+        }
+        assert_eq!(varint(&[0x88, 0x80, 0x00], 0, 3), Some((8, 3)));
+        // field 1 of two bytes, in a tag of two and a length of three
+        let f = field(&[0x8A, 0, 0x82, 0x80, 0, 7, 7], 0, 7).unwrap();
+        assert_eq!((f.number, f.wire, f.value, f.end, f.has_tag()), (1, 2, 5, Some(7), true));
+        for bad in [&[0x80, 0][..], &[0x8B, 0], &[0x88, 0x80, 0x80, 0x80, 0x90, 0]] {
+            assert!(!field(bad, 0, bad.len()).unwrap().has_tag(), "{bad:x?}");
+        }
     }
 
     #[test]

@@ -5,6 +5,7 @@ test_answers() {
     examples "$@"
     as_json
     bad_input
+    padding
     dear_explanations
     many_names
     operator_lists
@@ -89,6 +90,24 @@ bad_input() {
     same "a reader that stops" "$(cut -d: -f2 "$work/out" | cut -d' ' -f2-4)" "refused 1 at"
 }
 
+padding() {
+    local sound='\x42\x02\x10\x0D\x3A\x03\x12\x01g' note='  note   its tag, at 0, takes 2 bytes and needs 1'
+    same "padded varints" "$(script padded "$gate" "$root/examples")" "as expected"
+    # shellcheck disable=SC2059
+    printf "\x88\x00\x08$sound" >padded.onnx && printf "\x08\x08$sound" >shortest.onnx
+    try 1 $'padded.onnx: refused 9 at 0\n  rule   padded: *\n  where  ir_version\n'"$note*" '' check padded.onnx
+    try 1 $'padded.onnx: refused 9 at 0\n1 accepted, 1 refused, 0 not judged' '' check -q padded.onnx shortest.onnx
+    try 1 '' 'padded.onnx: refused 9 at 0*' pass padded.onnx
+    # 9 comes before 3, and after 1 and 2
+    printf '\x80\x00' >padded.onnx
+    try 1 $'*: refused 9 at 0\n*\n  where  model > (unreadable tag)\n'"$note*" '' check padded.onnx
+    printf '\x08\x88\x80' >padded.onnx
+    try 1 '*: refused 1 at 0*' '' check padded.onnx
+    printf '\x08\x80\x80\x80\x80\x80\x80\x80\x80\x80\x02' >padded.onnx
+    try 1 '*: refused 2 at 0*' '' check padded.onnx
+    rm ./*.onnx
+}
+
 # Models of 64 MB that are dear to explain, within 10 MB more, and too little memory for any explanation.
 dear_explanations() {
     script hostile "$root/examples" .
@@ -156,7 +175,7 @@ said() {
     try 0 'Makes and prints operator lists*' '' operators --help
     try 0 'onnx-gate [0-9]*' '' --version
     try 0 'onnx-gate [0-9]*' '' check -V
-    try 0 ' 1  past-end*40  cells-full*65  too-few-extra*' '' rules
+    try 0 ' 1  past-end*'$'\n'' 9  padded  *40  cells-full*65  too-few-extra*' '' rules
     try 0 'Prints every refusal number*65 is for programs*' '' rules --help
     run "$gate" rules >"$work/rules"
     same "the rules in Python" "$(script same_rules "$work/rules" "$(grep -rl '^RULES = {' "$root/bindings/python")")" "same"

@@ -1,4 +1,4 @@
-"""Document 01's refusal numbers and 65, each with a name and a line for people."""
+"""Document 01's refusal numbers, and 9 and 65 of document 02, each with a name and a line for people."""
 
 # tests/same_rules.py holds it to bindings/rust/src/rules.rs and bindings/c/onnx_gate.h.
 RULES = {
@@ -10,6 +10,7 @@ RULES = {
     6: ("too-deep", "graphs are nested more than 8 deep, the main graph being the first"),
     7: ("model-too-large", "the model has more than 2,147,483,647 bytes"),
     8: ("list-unsound", "the operator list is not in its format, or has a domain twice"),
+    9: ("padded", "a tag, value or length is padded: a varint of more than one byte that ends in 0"),
     10: ("bad-ir-version", "ir_version must be 4 to 10"),
     11: ("no-graph", "the model has no graph"),
     12: ("no-opset-import", "the model has no opset_import"),

@@ -2,7 +2,7 @@
 use crate::rules::rule;
 use std::fmt;
 
-/// Why a model is refused, and where. The numbers are those of document 01, and 65.
+/// Why a model is refused, and where. The numbers are those of document 01, and 9 and 65 of document 02.
 #[derive(Clone, Copy, Debug, PartialEq, Eq)]
 pub struct Refusal {
     pub number: u64,

@@ -24,7 +24,7 @@ const LEAST_LISTED: usize = 10;
 /// A sound operator list that allows nothing.
 const NOTHING: [u8; 5] = [0, 0, 0, 1, 1];
 
-/// The first refusal of an import: those with a smaller number come before any name is kept.
+/// The first refusal of an import: those with a smaller number, 1 to 12, come before any name is kept.
 const IMPORTED_TWICE: u64 = 13;
 
 /// Up to this size a model gets what any model of its size can need; a larger one is skimmed.

@@ -29,7 +29,8 @@ const DEEPEST: usize = 8;
 /// in three bytes, and a number or an operator type.
 const LEAST_CONTENTS: usize = 5;
 
-/// Counts up to the first byte that makes no sense: the library refuses such a model before it remembers a name.
+/// Counts up to the first byte that makes no sense: the library refuses such a model before it remembers a name. What it
+/// refuses for its padding, with 9, is counted as any other.
 pub fn skim(model: &[u8]) -> Need {
     let mut skimmed = Skimmed::default();
     let _ = skimmed.model(model);
@@ -146,7 +147,7 @@ fn field(bytes: &[u8]) -> Option<(u32, &[u8], &[u8])> {
     Some((number, contents, after))
 }
 
-/// The varint that `bytes` starts with, and what follows it.
+/// The varint that `bytes` starts with, padded or not, and what follows it.
 fn varint(bytes: &[u8]) -> Option<(u64, &[u8])> {
     let mut value = 0;
     for (i, byte) in bytes.iter().take(10).enumerate() {

@@ -24,6 +24,22 @@ fn line(hex: &str, count: usize) -> String {
     answer.map_or_else(|r| r.to_string(), |a| a.to_string())
 }
 
+/// A field of bytes.
+pub fn field_of(number: u64, contents: &[u8]) -> Vec<u8> {
+    [&varint_of(number << 3 | 2)[..], &varint_of(contents.len() as u64), contents].concat()
+}
+
+/// In its shortest form: another one is refused.
+fn varint_of(mut value: u64) -> Vec<u8> {
+    let mut out = Vec::new();
+    while value >= 0x80 {
+        out.push(value as u8 | 0x80);
+        value >>= 7;
+    }
+    out.push(value as u8);
+    out
+}
+
 /// Each example as it is, and so many times with some bytes changed, the same ones in every run.
 pub fn damaged(times: usize) -> impl Iterator<Item = Vec<u8>> {
     let mut state = 1u64;
@@ -68,6 +84,53 @@ fn samples_of_document_01() {
     assert_eq!(line(reader, 1), "refused 30 at 13");
 }
 
+/// A tag, a value and a length, in a message that is opened and of unknown fields; behind each the same in its shortest form.
+#[test]
+fn padded_varints() {
+    let (header, graph) = ("08 08 42 02 10 0D", "3A 03 12 01 67");
+    let sound = |more: &str| format!("{header} {graph} {more}");
+    for (padded, place, shortest) in [
+        (format!("88 00 08 42 02 10 0D {graph}"), 0, sound("")),
+        (format!("08 88 00 42 02 10 0D {graph}"), 0, sound("")),
+        (format!("08 08 42 82 00 10 0D {graph}"), 2, sound("")),
+        (format!("08 08 42 03 10 8D 00 {graph}"), 4, sound("")),
+        (sound("98 86 00 00"), 11, sound("98 06 00")),
+        (sound("98 06 80 00"), 11, sound("98 06 00")),
+        (sound("9A 06 80 00"), 11, sound("9A 06 00")),
+        (sound("9D 86 80 00 01 02 03 04"), 11, sound("9D 06 01 02 03 04")),
+        (sound("98 06 FF FF FF FF FF FF FF FF FF 00"), 11, sound("98 06 FF FF FF FF FF FF FF FF 7F")),
+    ] {
+        assert_eq!(line(&padded, 0), format!("refused 9 at {place}"), "{padded}");
+        assert_eq!(line(&shortest, 0), "accepted nodes 0 names 0", "{shortest}");
+    }
+    let longest = sound("98 06 FF FF FF FF FF FF FF FF FF 01");
+    assert_eq!(line(&longest, 0), "accepted nodes 0 names 0", "ten bytes that are needed");
+}
+
+/// After 1 and 2 of the same varint and before the field's next rule.
+#[test]
+fn padding_and_another_fault() {
+    for (model, number, place) in [
+        ("88", 1, 0),
+        ("08 80", 1, 0),
+        ("08 80 80 80 80 80 80 80 80 80 02", 2, 0),
+        ("08 80 80 80 80 80 80 80 80 80 00", 9, 0),
+        ("88 00", 9, 0),
+        ("80 00 00", 9, 0),
+        ("8B 00", 9, 0),
+        ("88 80 80 80 80 01", 3, 0),
+        ("88 80 80 80 80 81 00", 9, 0),
+        ("8A 00 00", 9, 0),
+        ("0A 80 00", 4, 0),
+        ("08 08 88 00 08", 9, 2),
+        ("08 08 08 88 00", 5, 2),
+        ("3A 81 00", 9, 0),
+        ("3A 01", 1, 0),
+    ] {
+        assert_eq!(line(model, 0), format!("refused {number} at {place}"), "{model}");
+    }
+}
+
 #[test]
 fn too_large_comes_first() {
     let model = vec![0; LARGEST_MODEL + 1];
@@ -101,8 +164,8 @@ fn names_are_shown() {
 #[test]
 fn every_rule_is_said() {
     let numbers: Vec<u64> = RULES.iter().map(|r| r.number).collect();
-    let document = [1..=8, 10..=16, 20..=35, 37..=38, 40..=40, 65..=65];
-    assert_eq!(numbers, document.into_iter().flatten().collect::<Vec<u64>>());
+    let documents = [1..=16, 20..=35, 37..=38, 40..=40, 65..=65];
+    assert_eq!(numbers, documents.into_iter().flatten().collect::<Vec<u64>>());
     assert!(RULES.iter().all(|r| !r.name.is_empty() && !r.explanation.is_empty() && !r.explanation.contains('\n')));
     let refusal: Box<dyn std::error::Error> = Box::new(Refusal { number: 30, place: 13 });
     assert_eq!(refusal.to_string(), "refused 30 at 13");

@@ -1,8 +1,8 @@
 use super::*;
-use crate::tests::damaged;
+use crate::tests::{damaged, field_of as part};
 use crate::{check_with, operators};
 
-/// A model with one node of so many outputs, of nine bytes each from byte 24 on.
+/// A model that ends with one node of so many outputs, of nine bytes each.
 fn outputs(count: usize) -> Vec<u8> {
     let mut node = b"\x22\x01X".to_vec();
     for i in 0..count {
@@ -12,11 +12,9 @@ fn outputs(count: usize) -> Vec<u8> {
     [&b"\x08\x08\x42\x02\x10\x0D"[..], &part(7, &[b"\x12\x01g", &node[..]].concat())].concat()
 }
 
-/// A field whose length takes five bytes, whatever it is.
-fn part(number: u8, contents: &[u8]) -> Vec<u8> {
-    let digit = |i: usize| (contents.len() >> (7 * i)) as u8 & 0x7F | if i < 4 { 0x80 } else { 0 };
-    let length: [u8; 5] = std::array::from_fn(digit);
-    [&[number << 3 | 2], &length[..], contents].concat()
+/// That there is no cell for the first of its last so many outputs.
+fn full(model: &[u8], last: usize) -> String {
+    format!("refused 40 at {}", model.len() - 9 * last)
 }
 
 fn list() -> Vec<u8> {
@@ -62,11 +60,11 @@ fn limits_are_kept() {
     let small = outputs(50);
     let cells = |cells| Options { cells, seed: Some(3), ..Options::default() };
     assert_eq!(under(cells(50), &small), ("accepted nodes 1 names 50".into(), 50));
-    assert_eq!(under(cells(49), &small), (format!("refused 40 at {}", 24 + 49 * 9), 49));
-    assert_eq!(under(cells(0), &small), ("refused 40 at 24".into(), 0));
+    assert_eq!(under(cells(49), &small), (full(&small, 1), 49));
+    assert_eq!(under(cells(0), &small), (full(&small, 50), 0));
     let large = outputs(100_000);
     assert_eq!(under(cells(100_000), &large), ("accepted nodes 1 names 100000".into(), 100_000));
-    assert_eq!(under(cells(99_999), &large), (format!("refused 40 at {}", 24 + 99_999 * 9), 99_999));
+    assert_eq!(under(cells(99_999), &large), (full(&large, 1), 99_999));
 }
 
 /// 20 bytes for a name are enough, and a byte less is one name less.
@@ -75,9 +73,8 @@ fn memory_is_kept() {
     for (model, count) in [(outputs(50), 50), (outputs(100_000), 100_000)] {
         let memory = |memory| Options { memory, ..Options::default() };
         assert_eq!(under(memory(20 * count), &model).0, format!("accepted nodes 1 names {count}"));
-        let full = (format!("refused 40 at {}", 24 + 9 * (count - 1)), count - 1);
-        assert_eq!(under(memory(20 * count - 1), &model), full);
-        assert_eq!(under(memory(0), &model), ("refused 40 at 24".into(), 0));
+        assert_eq!(under(memory(20 * count - 1), &model), (full(&model, 1), count - 1));
+        assert_eq!(under(memory(0), &model), (full(&model, count), 0));
     }
 }
 
@@ -150,6 +147,11 @@ fn hostile_counts() {
     let kept = model(&part(1, &ATTRIBUTE.repeat(many)));
     assert_eq!(asked(&kept), 2 + 4 * many, "as many as may be kept");
     assert_eq!(need(&kept, &[]), Need::default(), "under a list that is not sound");
+    for (number, fault) in [(3, &b"\x00"[..]), (5, b"\x12\x01g"), (9, b"\x52\x80\x00")] {
+        let refused = model(&[&part(1, &ATTRIBUTE.repeat(many)), fault].concat());
+        assert_eq!(need(&refused, &list()), Need::default(), "before a {number}");
+        assert_eq!(check(&refused, &list()).map_err(|r| r.number), Err(number));
+    }
 }
 
 /// Lists that are longer than any first try has room for take no longer, name for name.

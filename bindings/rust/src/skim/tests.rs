@@ -1,20 +1,6 @@
 use super::*;
-use crate::tests::damaged;
+use crate::tests::{damaged, field_of};
 use crate::{check_with, operators};
-
-fn field_of(number: u64, contents: &[u8]) -> Vec<u8> {
-    [&varint_of(number << 3 | 2)[..], &varint_of(contents.len() as u64), contents].concat()
-}
-
-fn varint_of(mut value: u64) -> Vec<u8> {
-    let mut out = Vec::new();
-    while value >= 0x80 {
-        out.push(value as u8 | 0x80);
-        value >>= 7;
-    }
-    out.push(value as u8);
-    out
-}
 
 fn need(names: usize, bound: usize, free: usize) -> Need {
     Need { names, bound, free, ..Need::default() }
@@ -52,7 +38,7 @@ fn what_is_counted() {
     let unknown = [field_of(99, &graph(ATTRIBUTE)), fixed, field_of(8, IMPORT)].concat();
     assert_eq!(skim(&unknown), imports(1), "unknown ones");
     let padded = [&[0x08][..], &[0xFF; 9], &[1, 0xC2, 0x80, 0x80, 0x80, 0, 0x85, 0x80, 0], IMPORT].concat();
-    assert_eq!(skim(&padded), imports(1), "varints of ten bytes, five and three");
+    assert_eq!(skim(&padded), imports(1), "varints of ten bytes, and padded ones of five and three");
 }
 
 /// What is too short to be kept is a name at most.
