@@ -257,9 +257,9 @@ impl<'m> Judge<'m> {
     }
 }
 
-/// The refusal numbers that document 01 lists, for those who count what was reached.
+/// The refusal numbers of document 01 and its changes, for those who count what was reached.
 pub fn refusal_numbers() -> Vec<u64> {
-    let mut numbers = vec![1, 2, 3, 4, 5, 6, 7, 8, 40];
+    let mut numbers = vec![1, 2, 3, 4, 5, 6, 7, 8, 9, 40];
     numbers.extend(10..=16);
     numbers.extend(20..=35);
     numbers.extend([37, 38]);

@@ -102,6 +102,9 @@ fn run(settings: &Settings, tally: &mut Tally) -> Outcome {
         tally.row(row)?;
         tally.spellings(row)?;
     }
+    for row in rows::positions() {
+        tally.row(&row)?;
+    }
     aimed_models(tally)?;
     short_models(tally)?;
     neighbours(tally)?;
@@ -136,15 +139,18 @@ fn aimed_models(tally: &mut Tally) -> Outcome {
     Ok(())
 }
 
-/// All models of one and two bytes: the wire's edges, whole.
+/// All models of one and two bytes, and of three where the last is 0, as in a padded varint: the wire's edges, whole.
 fn short_models(tally: &mut Tally) -> Outcome {
     let mut rng = Rng::new(2);
-    for first in 0..=255u8 {
+    let mut short = |label: &str, model: &[u8]| {
         tally.cases += 1;
-        tally.verdict("one byte", &[first], &models::lists::L, 1, Tries::Some(1, &mut rng))?;
+        tally.verdict(label, model, &models::lists::L, 1, Tries::Some(1, &mut rng)).map(|_| ())
+    };
+    for first in 0..=255u8 {
+        short("one byte", &[first])?;
         for second in 0..=255u8 {
-            tally.cases += 1;
-            tally.verdict("two bytes", &[first, second], &models::lists::L, 0, Tries::Some(1, &mut rng))?;
+            short("two bytes", &[first, second])?;
+            short("three bytes", &[first, second, 0])?;
         }
     }
     Ok(())

@@ -40,10 +40,10 @@ pub fn case(seed: u64, number: u64) -> Case {
     case
 }
 
-/// The bytes of a tree. Half of them are padded, and only now, so that a fault too may stand behind a padded tag.
-fn spelled(mut tree: Tree, rng: &mut Rng) -> Vec<u8> {
-    if rng.chance(1, 2) {
-        tree.pad(rng);
+/// The bytes of a tree that need not be sound. A few get a padded field too, before or behind what else is wrong.
+fn unsound(mut tree: Tree, rng: &mut Rng) -> Vec<u8> {
+    if rng.chance(1, 12) {
+        faults::pad(&mut tree, rng);
     }
     tree.encode()
 }
@@ -51,7 +51,7 @@ fn spelled(mut tree: Tree, rng: &mut Rng) -> Vec<u8> {
 fn sound(rng: &mut Rng) -> Case {
     let made = valid::valid(rng);
     let expected = Some((made.nodes, made.names));
-    Case { label: "sound".into(), model: spelled(made.tree, rng), list: lists::encode(&made.entries), expected }
+    Case { label: "sound".into(), model: made.tree.encode(), list: lists::encode(&made.entries), expected }
 }
 
 /// The fault whose turn it is, on sound models until one has a place for it.
@@ -71,7 +71,7 @@ pub fn with_fault(rng: &mut Rng, fault: &faults::Fault) -> Case {
         }
         made = valid::valid(rng);
     }
-    let model = spelled(made.tree, rng);
+    let model = unsound(made.tree, rng);
     Case { label: fault.name.into(), model, list: lists::encode(&made.entries), expected: None }
 }
 
@@ -80,7 +80,7 @@ pub fn with_fault(rng: &mut Rng, fault: &faults::Fault) -> Case {
 fn more_faults(rng: &mut Rng) -> Case {
     let mut faults = faults::all();
     if rng.chance(4, 5) {
-        faults.retain(|fault| !(1..=6).contains(&fault.aims));
+        faults.retain(|fault| !fault.of_the_wire());
     }
     let room = *rng.pick(&[1, 1, 2, 3, 8]);
     let mut made = valid::of_size(rng, room);
@@ -91,14 +91,14 @@ fn more_faults(rng: &mut Rng) -> Case {
             label.push(fault.name);
         }
     }
-    let model = spelled(made.tree, rng);
+    let model = unsound(made.tree, rng);
     Case { label: label.join(" + "), model, list: lists::encode(&made.entries), expected: None }
 }
 
 fn damaged(rng: &mut Rng) -> Case {
     let made = valid::valid(rng);
     let other = valid::valid(rng).tree.encode();
-    let mut model = spelled(made.tree, rng);
+    let mut model = unsound(made.tree, rng);
     for _ in 0..1 + rng.below(3) {
         damage::damage(rng, &mut model, &other);
     }
@@ -115,7 +115,7 @@ fn wild_model(rng: &mut Rng) -> Case {
         tree = tree.number(1, 8).tree(8, import);
     }
     wild::sprinkle(&mut tree, rng);
-    Case { label: "wild".into(), model: spelled(tree, rng), list: lists::L.to_vec(), expected: None }
+    Case { label: "wild".into(), model: unsound(tree, rng), list: lists::L.to_vec(), expected: None }
 }
 
 fn random(rng: &mut Rng) -> Case {

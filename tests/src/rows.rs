@@ -5,10 +5,12 @@ mod domains;
 mod large;
 mod lengths;
 mod padded;
+mod positions;
 mod versions;
 
 pub use by_hand::by_hand;
 pub use large::large;
+pub use positions::positions;
 
 use crate::checker::Verdict::{self, Accepted, Refused};
 use crate::models::lists::L;
@@ -126,6 +128,12 @@ mod tests {
         holds(by_hand());
     }
 
+    #[test]
+    fn each_position_of_a_padded_varint() {
+        assert!(positions().len() > 1_000);
+        holds(positions());
+    }
+
     /// Demand 3 on the rows: accepted models run to their end, and 23, 30 and 35 stop the run at their place.
     #[test]
     fn the_runner_on_all_rows() {
@@ -136,6 +144,22 @@ mod tests {
                 Refused { number: 23 | 30 | 35, place } => assert_eq!(end, End::Stopped { place }, "{}", row.name),
                 Refused { .. } => {}
             }
+        }
+    }
+
+    /// The checker refuses them, and the runner reads them as it always did.
+    #[test]
+    fn the_runner_on_padded_varints() {
+        for (name, graph, end) in [
+            ("30 behind a padded tag", "12 01 67 0A 0A 8A 00 01 61 12 01 61 22 01 58", Some(13)),
+            ("23 with a padded length", "12 01 67 0A 0A 12 01 61 12 81 00 61 22 01 58", Some(16)),
+            ("35 in a padded output", "12 01 67 E2 80 00 83 00 0A 01 62", Some(16)),
+            ("a sound node, padded", "12 01 67 8A 00 87 00 12 81 00 61 22 01 58", None),
+        ] {
+            let model = in_graph(graph);
+            assert_eq!(check(&model, &L, 9).number(), 9, "{name}");
+            let end = end.map_or(End::Reached, |place| End::Stopped { place });
+            assert_eq!(run(&model, &[]).end, end, "{name}");
         }
     }
 

@@ -1,7 +1,7 @@
 //! The rows of document 01 and its first walk.
 
 use crate::checker::Refusal;
-use crate::wire::{self, BYTES, FOUR, VARINT};
+use crate::wire::{self, Padding, BYTES, FOUR, VARINT};
 
 const WRONG_KIND: u64 = 4;
 const REPEATED: u64 = 5;
@@ -146,7 +146,7 @@ fn walk(model: &[u8], message: Message, start: usize, end: usize, depth: u32) ->
     let mut at = start;
     while at < end {
         let refuse = |number| Refusal { number, place: at as u64 };
-        let tag = wire::tag(model, at, end).map_err(refuse)?;
+        let tag = wire::tag(model, at, end, Padding::Refused).map_err(refuse)?;
         let row = row(message, tag.number);
         if let Some(row) = row {
             if !takes(row.form, tag.kind) {
@@ -162,7 +162,7 @@ fn walk(model: &[u8], message: Message, start: usize, end: usize, depth: u32) ->
             }
             seen |= bit;
         }
-        let field = wire::value(model, tag, end).map_err(refuse)?;
+        let field = wire::value(model, tag, end, Padding::Refused).map_err(refuse)?;
         if let Some(Row { form: Form::Open(inner), .. }) = row {
             let depth = if inner == Message::Graph { depth + 1 } else { depth };
             if depth > DEEPEST_GRAPH {

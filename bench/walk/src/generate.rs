@@ -272,6 +272,14 @@ fn anywhere(r: &mut Random) -> Message {
     })
 }
 
+/// Lengthens the varint that may end at `at` by up to nine bytes.
+fn pad(r: &mut Random, bytes: &mut Vec<u8>, at: usize) {
+    bytes[at] |= 0x80;
+    let mut needless = vec![0x80; r.below(9) as usize];
+    needless.push(0);
+    bytes.splice(at + 1..at + 1, needless);
+}
+
 /// A small model, with up to four places changed.
 pub fn damaged(r: &mut Random) -> Vec<u8> {
     let mut bytes = match r.below(8) {
@@ -287,12 +295,13 @@ pub fn damaged(r: &mut Random) -> Vec<u8> {
     .bytes;
     for _ in 0..r.below(5) {
         let at = r.below(bytes.len() as u64 + 1) as usize;
-        match r.below(5) {
+        match r.below(6) {
             0 => bytes.truncate(at),
             1 => bytes.insert(at, r.next() as u8),
             2 => bytes.insert(at, 0x80 | r.next() as u8),
             _ if at == bytes.len() => {}
             3 => bytes[at] = r.next() as u8,
+            4 => pad(r, &mut bytes, at),
             _ => bytes[at] ^= 1 << r.below(8),
         }
     }

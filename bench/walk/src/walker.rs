@@ -9,6 +9,7 @@ pub enum Rule {
     WrongWire = 4,
     Repeated = 5,
     TooDeep = 6,
+    Padded = 9,
 }
 
 /// A broken rule, and the place of the tag of the field that breaks it.
@@ -99,29 +100,38 @@ fn row(kind: Kind, number: u64) -> Row {
     }
 }
 
-/// The varint at `pos`, and where it ends.
+/// The varint at `pos`, where it ends, and whether it is padded: a last byte of 0 behind others is needless.
 #[inline]
-fn varint(bytes: &[u8], mut pos: usize) -> Result<(u64, usize), Rule> {
+fn varint(bytes: &[u8], mut pos: usize) -> Result<(u64, usize, bool), Rule> {
     let mut value = 0;
     for shift in (0..63).step_by(7) {
         let byte = *bytes.get(pos).ok_or(Rule::PastEnd)?;
         pos += 1;
         value |= u64::from(byte & 0x7F) << shift;
         if byte < 0x80 {
-            return Ok((value, pos));
+            return Ok((value, pos, shift > 0 && byte == 0));
         }
     }
     match *bytes.get(pos).ok_or(Rule::PastEnd)? {
-        byte @ 0..=1 => Ok((value | u64::from(byte) << 63, pos + 1)),
+        byte @ 0..=1 => Ok((value | u64::from(byte) << 63, pos + 1, byte == 0)),
         _ => Err(Rule::TenthByte),
     }
 }
 
-/// How many varints stand one after the other.
+/// A varint that must not be padded.
+#[inline]
+fn shortest(bytes: &[u8], pos: usize) -> Result<(u64, usize), Rule> {
+    match varint(bytes, pos)? {
+        (value, next, false) => Ok((value, next)),
+        _ => Err(Rule::Padded),
+    }
+}
+
+/// How many varints stand one after the other, padded or not.
 pub fn varints(bytes: &[u8]) -> u64 {
     let mut count = 0;
     let mut pos = 0;
-    while let Ok((_, next)) = varint(bytes, pos) {
+    while let Ok((_, next, _)) = varint(bytes, pos) {
         count += 1;
         pos = next;
     }
@@ -137,7 +147,7 @@ fn walk(model: &[u8], kind: Kind, depth: u32, start: usize, end: usize) -> Resul
         let place = pos;
         let refuse = |rule| Refusal { rule, place };
 
-        let (tag, after) = varint(bytes, pos).map_err(refuse)?;
+        let (tag, after) = shortest(bytes, pos).map_err(refuse)?;
         let (number, wire) = (tag >> 3, tag & 7);
         if tag > u64::from(u32::MAX) || number == 0 || !matches!(wire, VARINT | I64 | LEN | I32) {
             return Err(refuse(Rule::BadTag));
@@ -157,9 +167,9 @@ fn walk(model: &[u8], kind: Kind, depth: u32, start: usize, end: usize) -> Resul
         seen |= slot;
 
         let (inside, size) = match wire {
-            VARINT => (varint(bytes, after).map_err(refuse)?.1, 0),
+            VARINT => (shortest(bytes, after).map_err(refuse)?.1, 0),
             LEN => {
-                let (size, next) = varint(bytes, after).map_err(refuse)?;
+                let (size, next) = shortest(bytes, after).map_err(refuse)?;
                 (next, size)
             }
             I64 => (after, 8),

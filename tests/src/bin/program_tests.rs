@@ -111,7 +111,7 @@ fn sizes() -> Vec<Files> {
     let mut cases = Vec::new();
     for size in [MODEL - 1, MODEL, MODEL + 1, MODEL + 2, 3 * MODEL] {
         for list in [lists::L.to_vec(), vec![0; LIST + 1], Vec::new()] {
-            cases.push(Files { label: format!("model of {size}"), model: Some(padded(size)), list: Some(list) });
+            cases.push(Files { label: format!("model of {size}"), model: Some(filled(size)), list: Some(list) });
         }
     }
     for size in [LIST - 1, LIST, LIST + 1, 2 * LIST] {
@@ -128,9 +128,9 @@ fn sound() -> Vec<u8> {
 }
 
 /// A sound model with an unknown field behind it, so long that the whole has this size.
-fn padded(size: usize) -> Vec<u8> {
+fn filled(size: usize) -> Vec<u8> {
     let mut model = sound();
-    // Field 100 with contents: a tag of two bytes and a length of three.
+    // Field 100 with contents: a tag of two bytes and a length of three, which is the shortest from 2^14 on.
     let rest = size - model.len() - 5;
     model.extend([0xA2, 0x06, rest as u8 | 0x80, (rest >> 7) as u8 | 0x80, (rest >> 14) as u8]);
     model.resize(size, 0);

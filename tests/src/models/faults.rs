@@ -4,10 +4,13 @@
 
 mod header;
 mod names;
+mod padding;
 mod rules;
 mod wires;
 
-use super::proto::{Tree, Value};
+pub use padding::pad;
+
+use super::proto::{Item, Tree, Value};
 use crate::rng::Rng;
 use crate::schema::Message;
 
@@ -20,7 +23,23 @@ pub struct Fault {
 }
 
 pub fn all() -> Vec<&'static Fault> {
-    [wires::FAULTS, header::FAULTS, rules::FAULTS, names::FAULTS].into_iter().flatten().collect()
+    [wires::FAULTS, padding::FAULTS, header::FAULTS, rules::FAULTS, names::FAULTS].into_iter().flatten().collect()
+}
+
+impl Fault {
+    /// Is it aimed at a number of the first walk?
+    pub fn of_the_wire(&self) -> bool {
+        matches!(self.aims, 1..=6 | 9)
+    }
+}
+
+/// Some field for which `wanted` holds, in some message that has one.
+fn some_item<'t>(tree: &'t mut Tree, rng: &mut Rng, wanted: &dyn Fn(Message, &Item) -> bool) -> Option<&'t mut Item> {
+    let inside = tree.pick_mut(rng, &|tree| tree.items.iter().any(|item| wanted(tree.message, item)))?;
+    let message = inside.message;
+    let count = inside.items.iter().filter(|item| wanted(message, item)).count();
+    let at = rng.below(count);
+    inside.items.iter_mut().filter(|item| wanted(message, item)).nth(at)
 }
 
 /// Some message of one kind.

@@ -56,6 +56,17 @@ impl Item {
         Item::new(0, Value::Raw(bytes))
     }
 
+    pub fn has_length(&self) -> bool {
+        matches!(self.value, Value::Bytes(_) | Value::Tree(_))
+    }
+
+    /// In bytes, tag included.
+    pub fn length(&self) -> usize {
+        let mut bytes = Vec::new();
+        self.encode(&mut bytes);
+        bytes.len()
+    }
+
     fn encode(&self, out: &mut Vec<u8>) {
         let tag = |out: &mut Vec<u8>, kind: u8| {
             put_varint(out, u64::from(self.number) << 3 | u64::from(kind), self.tag_padding);
@@ -221,21 +232,6 @@ impl Tree {
         for item in &mut self.items {
             if let Value::Tree(tree) = &mut item.value {
                 tree.interleave(rng);
-            }
-        }
-    }
-
-    /// Pads some tags, numbers and lengths. Padded varints pass.
-    pub fn pad(&mut self, rng: &mut Rng) {
-        for item in &mut self.items {
-            if rng.chance(1, 5) {
-                item.tag_padding = rng.below(10);
-            }
-            if rng.chance(1, 5) {
-                item.padding = rng.below(10);
-            }
-            if let Value::Tree(tree) = &mut item.value {
-                tree.pad(rng);
             }
         }
     }

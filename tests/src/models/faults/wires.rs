@@ -1,6 +1,6 @@
 //! Faults of the first walk: 1 to 6.
 
-use super::{some_domain, some_message, Fault};
+use super::{some_domain, some_item, some_message, Fault};
 use crate::models::proto::{put_varint, Item, Tree, Value};
 use crate::models::wild;
 use crate::rng::Rng;
@@ -18,33 +18,40 @@ pub const FAULTS: &[Fault] = &[
     Fault { name: "field number 0", aims: 3, apply: field_zero },
     Fault { name: "wire type 3, 4, 6 or 7", aims: 3, apply: bad_kind },
     Fault { name: "a tag of 2^32 or more", aims: 3, apply: large_tag },
-    Fault { name: "a named field of another wire type", aims: 4, apply: wrong_kind },
+    Fault { name: "a named field of another wire type", aims: 4, apply: |t, r| wrong_kind(t, r, |_| ()) },
     Fault { name: "a wrong wire type with a cut value", aims: 4, apply: wrong_kind_cut },
-    Fault { name: "a single field twice", aims: 5, apply: repeat },
+    Fault { name: "a single field twice", aims: 5, apply: |t, r| repeat(t, r, |_| ()) },
     Fault { name: "a second member of a one of", aims: 5, apply: second_member },
     Fault { name: "a single field twice, its value cut", aims: 5, apply: repeat_cut },
-    Fault { name: "graphs nested to 9 or more", aims: 6, apply: |t, r| nest(t, r, 8, 0) },
+    Fault { name: "graphs nested to 9 or more", aims: 6, apply: |t, r| nest(t, r, 8, |_| ()) },
     Fault {
         name: "graphs nested to about 8",
         aims: 6,
         apply: |t, r| {
             let k = 1 + r.below(8);
-            nest(t, r, k, 0)
+            nest(t, r, k, |_| ())
         },
     },
-    Fault { name: "a graph at depth 9 of too great a length", aims: 1, apply: |t, r| nest(t, r, 8, 1000) },
+    Fault {
+        name: "a graph at depth 9 of too great a length",
+        aims: 1,
+        apply: |t, r| nest(t, r, 8, |graph| graph.stretch = 1000),
+    },
 ];
 
-/// For tags in raw bytes, which are not padded later.
+/// What is done to the field that a fault puts into a message, so that it has two.
+pub(super) type Spoil = fn(&mut Item);
+
+/// For tags in raw bytes: a few are padded, and 9 comes before or after the fault.
 fn some_padding(rng: &mut Rng) -> usize {
-    if rng.chance(1, 3) {
+    if rng.chance(1, 8) {
         rng.below(10)
     } else {
         0
     }
 }
 
-fn any<'t>(tree: &'t mut Tree, rng: &mut Rng) -> &'t mut Tree {
+pub(super) fn any<'t>(tree: &'t mut Tree, rng: &mut Rng) -> &'t mut Tree {
     tree.pick_mut(rng, &|_| true).expect("a tree has itself")
 }
 
@@ -72,13 +79,7 @@ fn cut_value(tree: &mut Tree, rng: &mut Rng) -> bool {
 }
 
 fn stretch(tree: &mut Tree, rng: &mut Rng, far: bool) -> bool {
-    let long = |item: &Item| matches!(item.value, Value::Bytes(_) | Value::Tree(_));
-    let Some(inside) = tree.pick_mut(rng, &|tree| tree.items.iter().any(long)) else {
-        return false;
-    };
-    let count = inside.items.iter().filter(|item| long(item)).count();
-    let at = rng.below(count);
-    let Some(item) = inside.items.iter_mut().filter(|item| long(item)).nth(at) else {
+    let Some(item) = some_item(tree, rng, &|_, item| item.has_length()) else {
         return false;
     };
     // A field in the middle may swallow its sisters; one that reaches past its message is refused.
@@ -139,7 +140,7 @@ fn kind_against(rng: &mut Rng, form: Form) -> u8 {
     *rng.pick(&kinds)
 }
 
-fn wrong_kind(tree: &mut Tree, rng: &mut Rng) -> bool {
+pub(super) fn wrong_kind(tree: &mut Tree, rng: &mut Rng, spoil: Spoil) -> bool {
     let inside = any(tree, rng);
     let row = *rng.pick(rows(inside.message));
     let value = match kind_against(rng, row.form) {
@@ -151,7 +152,9 @@ fn wrong_kind(tree: &mut Tree, rng: &mut Rng) -> bool {
     if rng.chance(1, 2) {
         inside.remove(row.number);
     }
-    inside.insert(rng, Item::new(row.number, value));
+    let mut item = Item::new(row.number, value);
+    spoil(&mut item);
+    inside.insert(rng, item);
     true
 }
 
@@ -176,12 +179,13 @@ fn some_single(tree: &Tree, rng: &mut Rng) -> Option<usize> {
     }
 }
 
-fn repeat(tree: &mut Tree, rng: &mut Rng) -> bool {
+pub(super) fn repeat(tree: &mut Tree, rng: &mut Rng, spoil: Spoil) -> bool {
     let inside = any(tree, rng);
     let Some(place) = some_single(inside, rng) else {
         return false;
     };
-    let twin = inside.items[place].clone();
+    let mut twin = inside.items[place].clone();
+    spoil(&mut twin);
     inside.insert(rng, twin);
     true
 }
@@ -215,28 +219,30 @@ fn second_member(tree: &mut Tree, rng: &mut Rng) -> bool {
     true
 }
 
-/// Graphs in graphs, `count` of them, in an attribute of some node. From the main graph 7 are allowed.
-fn nest(tree: &mut Tree, rng: &mut Rng, count: usize, stretch: u64) -> bool {
+/// Graphs in graphs, `count` of them and the innermost spoiled, in an attribute of some node. From the main graph 7 are allowed.
+pub(super) fn nest(tree: &mut Tree, rng: &mut Rng, count: usize, spoil: Spoil) -> bool {
     let domain = some_domain(tree);
     let Some(node) = some_message(tree, rng, Message::Node) else {
         return false;
     };
     let carrier = *rng.pick(&[6, 11]);
-    let attribute = deep(domain, rng, count, stretch, carrier);
+    let attribute = deep(domain, rng, count, spoil, carrier);
     node.insert(rng, Item::new(5, Value::Tree(attribute)));
     true
 }
 
-fn deep(domain: Option<Vec<u8>>, rng: &mut Rng, count: usize, stretch: u64, carrier: u32) -> Tree {
+fn deep(domain: Option<Vec<u8>>, rng: &mut Rng, count: usize, spoil: Spoil, carrier: u32) -> Tree {
     let mut graph = Tree::new(Message::Graph).text(2, b"g");
     if count > 1 {
         let inner_carrier = *rng.pick(&[6, 11]);
-        let inner = deep(domain.clone(), rng, count - 1, stretch, inner_carrier);
+        let inner = deep(domain.clone(), rng, count - 1, spoil, inner_carrier);
         let node = super::plain_node(domain, None, b"").tree(5, inner);
         graph = graph.tree(1, node);
     }
     let mut item = Item::new(carrier, Value::Tree(graph));
-    item.stretch = if count == 1 { stretch } else { 0 };
+    if count == 1 {
+        spoil(&mut item);
+    }
     let kind = if carrier == 6 { 5 } else { 10 };
     let mut attribute = Tree::new(Message::Attribute).text(1, b"deepest").number(20, kind);
     attribute.items.push(item);
