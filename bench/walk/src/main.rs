@@ -97,29 +97,45 @@ fn time<T>(bytes: &[u8], calls: u32, f: fn(&[u8]) -> T) -> Duration {
     start.elapsed() / calls
 }
 
+/// The proved side, the one by hand and, where one was given, the proved side of before.
+#[cfg(not(feature = "before"))]
+const COUNTS: &[fn(&[u8]) -> u64] = &[rattle::varints, walker::varints];
+#[cfg(not(feature = "before"))]
+const WALKS: &[fn(&[u8]) -> Answer] = &[rattle::first_walk, by_hand];
+#[cfg(feature = "before")]
+const COUNTS: &[fn(&[u8]) -> u64] = &[rattle::varints, walker::varints, rattle::before::varints];
+#[cfg(feature = "before")]
+const WALKS: &[fn(&[u8]) -> Answer] = &[rattle::first_walk, by_hand, rattle::before::first_walk];
+
 /// A line of the table: the best of several runs of each, taken in turn.
-fn compare<T>(w: &Workload, load: &Message, proved: fn(&[u8]) -> T, by_hand: fn(&[u8]) -> T) {
-    let mut best = [Duration::MAX; 2];
+fn compare<T>(w: &Workload, load: &Message, sides: &[fn(&[u8]) -> T]) {
+    let mut best = vec![Duration::MAX; sides.len()];
     for _ in 0..RUNS {
-        best[0] = best[0].min(time(&load.bytes, w.calls, proved));
-        best[1] = best[1].min(time(&load.bytes, w.calls, by_hand));
+        for (best, side) in best.iter_mut().zip(sides) {
+            *best = (*best).min(time(&load.bytes, w.calls, *side));
+        }
     }
-    let [rattle, rust] = best.map(|t| t.as_secs_f64());
+    let seconds: Vec<f64> = best.iter().map(Duration::as_secs_f64).collect();
+    let per_field = |t: f64| t * 1e9 / load.fields as f64;
     // where nearly all bytes are passed over at once, there is no speed in bytes
     let speed = |t: f64| match w.calls {
         1 => format!("{:.0}", load.bytes.len() as f64 / t / 1e6),
         _ => "-".into(),
     };
-    println!(
+    print!(
         "{:5.2}  {:26} {:10} {:>7} {:>6} {:8.1} {:6.1}",
-        rattle / rust,
+        seconds[0] / seconds[1],
         w.name,
         load.fields,
-        speed(rattle),
-        speed(rust),
-        rattle * 1e9 / load.fields as f64,
-        rust * 1e9 / load.fields as f64
+        speed(seconds[0]),
+        speed(seconds[1]),
+        per_field(seconds[0]),
+        per_field(seconds[1])
     );
+    if let Some(&before) = seconds.get(2) {
+        print!(" {:8.1} {:6.2}", per_field(before), seconds[0] / before);
+    }
+    println!();
 }
 
 fn main() {
@@ -127,16 +143,21 @@ fn main() {
     let picked = |w: &&Workload| w.name.contains(&word);
     check_damaged();
 
+    let more = if cfg!(feature = "before") {
+        "   before  ratio"
+    } else {
+        ""
+    };
     println!("                                                  MB/s       ns per field");
-    println!("ratio  workload of 100 MB             fields  Rattle   Rust   Rattle   Rust");
+    println!("ratio  workload of 100 MB             fields  Rattle   Rust   Rattle   Rust{more}");
     for w in COUNTED.iter().filter(picked) {
         let load = (w.make)();
         assert_eq!(agree(&load.bytes).1, load.fields);
-        compare(w, &load, rattle::varints, walker::varints);
+        compare(w, &load, COUNTS);
     }
     for w in WALKED.iter().filter(picked) {
         let load = (w.make)();
         assert_eq!(agree(&load.bytes).0.number, 0);
-        compare(w, &load, rattle::first_walk, by_hand);
+        compare(w, &load, WALKS);
     }
 }
