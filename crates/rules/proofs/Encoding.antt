@@ -8,6 +8,7 @@ use lib.Seq.{take-all}
 use Rattle.varint.specs.Outcome.{pass}
 use Rattle.varint.specs.Bytes.{Bytes, part}
 use Rattle.varint.specs.Encoding.{Octets}
+use Rattle.varint.proofs.ShortestLaws.{padded-exactly}
 use Rattle.wire.specs.Message.{text, message, whole}
 use Rattle.wire.specs.Encoding.{Said, said, encoded}
 use Rattle.wire.specs.declared.Field.{Field}
@@ -35,6 +36,7 @@ model-written model octets w = sym (text-whole model) ∙ opened-written model o
 
 pub oneEncoding : OneEncoding
 oneEncoding = record {
+  padded-exactly = padded-exactly;
   of-field = λ model end pos f octets h e. field-written model octets end h pos f e .2;
   of-message = opened-written;
   of-model = λ a b u v w x same. model-written a u w ∙ ap (flatMap encoded) same ∙ sym (model-written b v x);

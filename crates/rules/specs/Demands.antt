@@ -9,9 +9,11 @@ use lib.ListN.{length, replicate}
 use lib.Dec.{T}
 use Rattle.varint.specs.Outcome.{pass, fail, refused}
 use Rattle.varint.specs.declared.Refusal.{Refusal}
+use Rattle.varint.specs.declared.Varint.{Varint}
 use Rattle.wire.specs.declared.Field.{Field}
 use Rattle.varint.specs.Lists.{contains}
 use Rattle.varint.specs.Bytes.{Bytes, byte, part, same, member}
+use Rattle.varint.specs.Varint.{varint}
 use Rattle.varint.specs.Encoding.{Octets}
 use Rattle.wire.specs.Wire.{field, fieldsFrom, fields}
 use Rattle.wire.specs.Encoding.{said, encoded}
@@ -102,9 +104,13 @@ Demand3 = (model list : Bytes) (cells : ℕ) → Faithful model list cells
 
 -- ---- one content, one encoding
 
--- Document 02, Req 07: "Padding alone defeats our content hash." Of a model whose elements are bytes:
+-- Document 02, Req 07: "Padding alone defeats our content hash."
 pub record OneEncoding : Type 0 where
-  -- what a field's bytes are follows from its number, wire type, value and contents
+  -- "Padded: more than one byte and the last is 0."
+  pub padded-exactly :
+      (model : Bytes) (place end pos : ℕ) (v : Varint) → varint model place end pos ≡ pass v →
+      (v .shortest ≡ false) ↔ ((pos + 1 < v .next) × (byte model (v .next - 1) ≡ 0))
+  -- what a field's bytes are follows from its number, wire type, value and contents, in a model whose elements are bytes
   pub of-field :
       (model : Bytes) (end pos : ℕ) (f : Field) → Octets model → end ≤ length model → field model end pos ≡ pass f →
       part pos (f .next - pos) model ≡ encoded (said model f)

@@ -48,20 +48,27 @@ high-bits b high = omega arith
 
 module _ (s : Bytes) (octets : Octets s) (place end : ℕ) (inside : end ≤ length s) where
   -- from a byte that is not the first on, a varint that ends in no 0 is a number above 0
-  Written : (left pos : ℕ) → Varint → Type 0
-  Written left pos v = (pos < v .next) × (v .next ≤ end) × (part pos (v .next - pos) s ≡ encodeFrom left (v .value)) × (left < 10 → 0 < v .value)
+  record Written (left pos : ℕ) (v : Varint) : Type 0 where
+    onward : pos < v .next
+    within : v .next ≤ end
+    bytes : part pos (v .next - pos) s ≡ encodeFrom left (v .value)
+    some : left < 10 → 0 < v .value
 
   written-last : (left pos : ℕ) (v : Varint) → suc left ≤ 10 → pos < end → byte s pos < 128
       → v ≡ record { value = byte s pos; next = pos + 1; shortest = eqb left 9 || ltb 0 (byte s pos) } → v .shortest ≡ true
       → Written (suc left) pos v
-  unfolding Written encodeFrom part
+  unfolding encodeFrom part
   written-last left pos v l h k e short =
       let n : v .next ≡ pos + 1 = ap (λ (x : Varint). x .next) e in
       let w : v .value ≡ byte s pos = ap (λ (x : Varint). x .value) e in
       let b : (eqb left 9 || ltb 0 (byte s pos)) ≡ true = sym (ap (λ (x : Varint). x .shortest) e) ∙ short in
-      let bytes = part-first s pos (pos + 1) (omega arith) (omega arith) in
       let none : pos + 1 - (pos + 1) ≡ 0 = omega arith in
-      (omega arith, omega arith, rw (n, w) (bytes ∙ rw (none, lt-ltb (byte s pos) 128 k, encodeFrom) refl), λ m. rw w (above (ltb 0 (byte s pos)) refl (rw (ne-eqb left 9 (λ z. omega arith)) at b)))
+      record {
+        onward = omega arith;
+        within = omega arith;
+        bytes = rw (n, w) (part-first s pos (pos + 1) (omega arith) (omega arith) ∙ rw (none, lt-ltb (byte s pos) 128 k, encodeFrom) refl);
+        some = λ m. rw w (above (ltb 0 (byte s pos)) refl (rw (ne-eqb left 9 (λ z. omega arith)) at b));
+      }
     where
       above : (c : Bool) → ltb 0 (byte s pos) ≡ c → c ≡ true → 0 < byte s pos
       above true e t = leb→le 1 (byte s pos) (true-T _ e)
@@ -71,18 +78,24 @@ module _ (s : Bytes) (octets : Octets s) (place end : ℕ) (inside : end ≤ len
       → v ≡ record { value = byte s pos % 128 + 128 * high .value; next = high .next; shortest = high .shortest }
       → Written left (pos + 1) high
       → Written (suc left) pos v
-  unfolding Written encodeFrom
+  unfolding encodeFrom
   written-more left pos v high l h k e ih =
       let n : v .next ≡ high .next = ap (λ (x : Varint). x .next) e in
       let w : v .value ≡ byte s pos % 128 + 128 * high .value = ap (λ (x : Varint). x .value) e in
-      let far = ih .0 in
-      let near = ih .1 in
-      let some : 0 < high .value = ih .3 (omega arith) in
+      let far = ih .onward in
+      let near = ih .within in
+      let some : 0 < high .value = ih .some (omega arith) in
       let small = octets pos in
       let big : ltb (byte s pos % 128 + 128 * high .value) 128 ≡ false = le-ltb (byte s pos % 128 + 128 * high .value) 128 (omega arith) in
       let here = low-seven (byte s pos) (high .value) k small in
       let up = high-bits (byte s pos) (high .value) in
-      (omega arith, omega arith, rw (n, w) (part-first s pos (high .next) (omega arith) (omega arith) ∙ rw (big, here, up, encodeFrom) (ap (λ (x : Bytes). byte s pos ∷ x) (ih .2))), λ m. omega arith)
+      let first = part-first s pos (high .next) (omega arith) (omega arith) in
+      record {
+        onward = omega arith;
+        within = omega arith;
+        bytes = rw (n, w) (first ∙ rw (big, here, up, encodeFrom) (ap (λ (x : Bytes). byte s pos ∷ x) (ih .bytes)));
+        some = λ m. omega arith;
+      }
 
   written : (left pos : ℕ) (v : Varint) → left ≤ 10 → varintFrom s left place end pos ≡ pass v → v .shortest ≡ true → Written left pos v
   unfolding varintFrom
@@ -112,5 +125,8 @@ module _ (s : Bytes) (octets : Octets s) (place end : ℕ) (inside : end ≤ len
   -- "whether the form was the shortest": then it is the form that is written
   pub varint-written : (pos : ℕ) (v : Varint) → shortestVarint s place end pos ≡ pass v
       → (pos < v .next) × (v .next ≤ end) × (part pos (v .next - pos) s ≡ encode (v .value))
-  unfolding encode varint Written
-  varint-written pos v e = let k = shortest-is s place end pos v e in let w = written 10 pos v (omega arith) (k .0) (k .1) in (w .0, w .1, w .2)
+  unfolding encode varint
+  varint-written pos v e =
+      let k = shortest-is s place end pos v e in
+      let w = written 10 pos v (omega arith) (k .0) (k .1) in
+      (w .onward, w .within, w .bytes)

@@ -9,8 +9,8 @@ use Rattle.varint.specs.Bytes.{Bytes, byte, Bytes·computes}
 use Rattle.varint.specs.declared.Varint.{Varint}
 
 module _ (model : Bytes) where
-  -- "A varint has at most ten bytes, lowest seven bits first; the tenth is 0 or 1." Of the byte at `pos` and those after it, at most `left`.
-  -- "The varint reader now also tells whether the form was the shortest": its last byte is not 0, or is the first of ten.
+  -- "A varint has at most ten bytes, lowest seven bits first; the tenth is 0 or 1." `left` bytes may still come, nine after the first.
+  -- "The varint reader now also tells whether the form was the shortest": the last byte is the first, or is not 0.
   unfoldable pub varintFrom : (left place end pos : ℕ) → Judged Varint
   varintFrom zero place end pos = refused 2 place
   varintFrom (suc left) place end pos = do

@@ -27,7 +27,7 @@ pub enum VarintAnswer {
     Refused(Refusal),
 }
 
-// The numbers of document 01's table that the wire refuses with.
+// The numbers that the wire refuses with: of document 01's table, and 9 of document 02.
 impl Refusal {
     pub const PAST_END: u8 = 1;
 

@@ -46,14 +46,17 @@ module _ (model : Bytes) (octets : Octets model) (end : ℕ) (inside : end ≤ l
   empty pos e = let none : end - pos ≡ 0 = omega arith in rw none refl
 
   -- the bytes after a tag
-  After : Tag → Field → Type 0
-  After t f = (f .number ≡ t .number) × (f .wire ≡ t .wire) × (t .next ≤ f .next) × (f .next ≤ end)
-      × (part (t .next) (f .next - t .next) model ≡ encodedValue (f .wire) (f .value) (text model f))
+  record After (t : Tag) (f : Field) : Type 0 where
+    number : f .number ≡ t .number
+    wire : f .wire ≡ t .wire
+    onward : t .next ≤ f .next
+    within : f .next ≤ end
+    bytes : part (t .next) (f .next - t .next) model ≡ encodedValue (f .wire) (f .value) (text model f)
 
   number-written : (t : Tag) (f : Field) → eqb (t .wire) 0 ≡ true
       → (shortestVarint model (t .place) end (t .next) >>= λ v. sized t end (v .value) (v .next) 0) ≡ pass f
       → After t f
-  unfolding After encodedValue
+  unfolding encodedValue
   number-written t f k e =
       let a = passed-bind (shortestVarint model (t .place) end (t .next)) _ f e in
       let v = a .0 in
@@ -62,12 +65,12 @@ module _ (model : Bytes) (octets : Octets model) (end : ℕ) (inside : end ≤ l
       let far = w .0 in
       let near = w .1 in
       let stop : v .next + 0 ≡ v .next = omega arith in
-      rw (b .1) (refl, refl, omega arith, omega arith, rw (stop, k, encodedValue) (w .2))
+      rw (b .1) (record { number = refl; wire = refl; onward = omega arith; within = omega arith; bytes = rw (stop, k, encodedValue) (w .2) })
 
   length-written : (t : Tag) (f : Field) → eqb (t .wire) 0 ≡ false → eqb (t .wire) 2 ≡ true
       → (shortestVarint model (t .place) end (t .next) >>= λ v. sized t end 0 (v .next) (v .value)) ≡ pass f
       → After t f
-  unfolding After encodedValue text
+  unfolding encodedValue text
   length-written t f k k′ e =
       let a = passed-bind (shortestVarint model (t .place) end (t .next)) _ f e in
       let v = a .0 in
@@ -75,15 +78,24 @@ module _ (model : Bytes) (octets : Octets model) (end : ℕ) (inside : end ≤ l
       let w = varint-written model octets (t .place) end inside (t .next) v (a .1) in
       let far = w .0 in
       let near = b .0 in
-      let size : length (part (v .next) (v .next + v .value - v .next) model) ≡ v .value = part-length model (v .next) (v .next + v .value) (omega arith) ∙ omega arith in
-      rw (b .1) (refl, refl, omega arith, near, part-join model (t .next) (v .next) (v .next + v .value) (omega arith) (omega arith) ∙ rw (k, k′, size, encodedValue) (ap (λ (x : Bytes). x ++ part (v .next) (v .next + v .value - v .next) model) (w .2)))
+      let stop = v .next + v .value in
+      let contents = part (v .next) (stop - v .next) model in
+      let size : length contents ≡ v .value = part-length model (v .next) stop (omega arith) ∙ omega arith in
+      let two = part-join model (t .next) (v .next) stop (omega arith) (omega arith) in
+      rw (b .1) (record {
+        number = refl;
+        wire = refl;
+        onward = omega arith;
+        within = near;
+        bytes = two ∙ rw (k, k′, size, encodedValue) (ap (λ (x : Bytes). x ++ contents) (w .2));
+      })
 
   fixed-written : (t : Tag) (size : ℕ) (f : Field) → eqb (t .wire) 0 ≡ false → eqb (t .wire) 2 ≡ false → sized t end 0 (t .next) size ≡ pass f → After t f
-  unfolding After encodedValue text
+  unfolding encodedValue text
   fixed-written t size f k k′ e =
       let b = sized-is t end 0 (t .next) size f e in
       let near = b .0 in
-      rw (b .1) (refl, refl, omega arith, near, rw (k, k′, encodedValue) refl)
+      rw (b .1) (record { number = refl; wire = refl; onward = omega arith; within = near; bytes = rw (k, k′, encodedValue) refl })
 
   value-written : (t : Tag) (f : Field) → value model t end ≡ pass f → After t f
   unfolding value
@@ -105,17 +117,17 @@ module _ (model : Bytes) (octets : Octets model) (end : ℕ) (inside : end ≤ l
 
   pub field-written : (pos : ℕ) (f : Field) → field model end pos ≡ pass f
       → (pos < f .next) × (f .next ≤ end) × (part pos (f .next - pos) model ≡ encoded (said model f))
-  unfolding field encoded said After
+  unfolding field encoded said
   field-written pos f e =
       let a = passed-bind (tag model end pos) _ f e in
       let t = a .0 in
       let x = tag-written pos t (a .1) in
       let y = value-written t f (a .2) in
       let front = x .1 in
-      let back = y .2 in
-      let close = y .3 in
-      let first = x .3 ∙ ap₂ (λ (n w : ℕ). encode (8 * n + w)) (sym (y .0)) (sym (y .1)) in
-      (omega arith, close, part-join model pos (t .next) (f .next) (omega arith) back ∙ ap₂ (λ (u v : Bytes). u ++ v) first (y .4))
+      let back = y .onward in
+      let first = x .3 ∙ ap₂ (λ (n w : ℕ). encode (8 * n + w)) (sym (y .number)) (sym (y .wire)) in
+      let two = part-join model pos (t .next) (f .next) (omega arith) back in
+      (omega arith, y .within, two ∙ ap₂ (λ (u v : Bytes). u ++ v) first (y .bytes))
 
   -- ---- a message
 

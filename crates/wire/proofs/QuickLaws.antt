@@ -3,8 +3,8 @@ use Prim.Native.Nat.{ℕ, _+_, _-_, _*_, _/_, _%_, _≤_, _<_}
 use native.Mathlib.Omega.{arith}
 use mathlib.Core.Path.{_≡_, refl, sym, ap, _∙_}
 use mathlib.Core.Logic.{inr}
-use mathlib.Core.Bool.{Bool, true, false, _||_}
-use lib.Dec.{eqb}
+use mathlib.Core.Bool.{Bool, true, false, not, _||_}
+use lib.Dec.{T, leb, eqb, leb→le, nleb→lt}
 use borrow.Author.Tests.{ne-eqb}
 use Rattle.varint.specs.Outcome.{pass, _>>=_, _>>_, Judged, refuse_at:_when:_}
 use Rattle.varint.specs.Lists.{contains}
@@ -16,6 +16,7 @@ use Rattle.wire.specs.Answers.{fieldSays, withCursor, after}
 use Rattle.wire.specs.Quick.{Few, Many, wires, QuickTag, Fixed, QuickValue, fieldOf, Long}
 use Rattle.varint.specs.declared.Refusal.{Refusal}
 use Rattle.varint.specs.declared.Varint.{Varint}
+use Rattle.wire.specs.declared.shorts.Number.{Number}
 use Rattle.wire.specs.declared.Tag.{Tag}
 use Rattle.wire.specs.declared.Field.{Field}
 use Rattle.varint.specs.declared.VarintAnswer.{VarintAnswer}
@@ -34,7 +35,7 @@ varint-same : (s : Bytes) (place end pos : ℕ) {x y x′ y′ : ℕ} → x′ �
 varint-same s place end pos e f h = shortest-of s place end pos (rw (e, f) h) refl
 
 module _ (s : Bytes) (end pos a : ℕ) (first : a ≡ byte s pos) where
-  pub few-one : {next : ℕ} → next ≡ pos + 1 → next ≤ end → a < 128 → Few s end pos (record { value = a; next = next; shortest = true })
+  pub few-one : {next : ℕ} → next ≡ pos + 1 → next ≤ end → a < 128 → Few s end pos (record { value = a; next = next })
   few-one e h k = record { inside = h; small = omega arith; read = λ place. varint-same s place end pos refl e (one-byte s place end pos a (omega arith) first k) }
 
   module _ (more : 128 ≤ a) (byte-a : a < 256) (b : ℕ) (second : b ≡ byte s (pos + 1)) where
@@ -42,7 +43,7 @@ module _ (s : Bytes) (end pos a : ℕ) (first : a ≡ byte s pos) where
     two place h = turn-more (reading-start s place end pos) a (omega arith) (omega arith) first more byte-a
 
     pub few-two : {value next : ℕ} → value ≡ a - 128 + 128 * b → next ≡ pos + 2 → next ≤ end → 0 < b → b < 128
-        → Few s end pos (record { value = value; next = next; shortest = true })
+        → Few s end pos (record { value = value; next = next })
     few-two v e h l k = record {
       inside = h;
       small = omega arith;
@@ -51,7 +52,7 @@ module _ (s : Bytes) (end pos a : ℕ) (first : a ≡ byte s pos) where
 
     module _ (again : 128 ≤ b) (byte-b : b < 256) (c : ℕ) (third : c ≡ byte s (pos + 2)) where
       pub few-three : {value next : ℕ} → value ≡ a - 128 + 128 * (b - 128) + 16384 * c → next ≡ pos + 3 → next ≤ end → 0 < c → c < 128
-          → Few s end pos (record { value = value; next = next; shortest = true })
+          → Few s end pos (record { value = value; next = next })
       few-three v e h l k = record {
         inside = h;
         small = omega arith;
@@ -59,6 +60,14 @@ module _ (s : Bytes) (end pos a : ℕ) (first : a ≡ byte s pos) where
             (turn-shortest (turn-more (two place (omega arith)) b (omega arith) (omega arith) second again byte-b) c l (omega arith)
             (inr (λ z. omega arith)) (third ∙ ap (λ (x : ℕ). byte s x) (omega arith)) k);
       }
+
+-- read or not, it ends in its message
+pub few-inside : {s : Bytes} {end pos : ℕ} {v : Number} → (0 < v .next → Few s end pos v) → v .next ≤ end
+few-inside {s} {end} {pos} {v} q = go (leb (v .next) 0) (leb→le (v .next) 0) (nleb→lt (v .next) 0)
+  where
+    go : (b : Bool) → (T b → v .next ≤ 0) → (T (not b) → 0 < v .next) → v .next ≤ end
+    go true h k = let z = h tt in omega arith
+    go false h k = q (k tt) .inside
 
 -- ---- a varint with room for ten bytes: `i` of them were read, and all go on
 
@@ -125,7 +134,7 @@ no-other-wire w a b c = simp (ne-eqb _ _ a, ne-eqb _ _ b, ne-eqb _ _ c) (go (eqb
     go true = refl
     go false = refl
 
-pub quick-tag : (s : Bytes) (end pos : ℕ) (v : Varint) → Few s end pos v → 8 ≤ v .value → contains (v .value % 8) wires ≡ true
+pub quick-tag : (s : Bytes) (end pos : ℕ) (v : Number) → Few s end pos v → 8 ≤ v .value → contains (v .value % 8) wires ≡ true
     → pass (record { place = pos; number = v .value / 8; wire = v .value % 8; next = v .next }) ≡ tag s end pos
 unfolding tag _>>=_ _>>_ refuse_at:_when:_
 quick-tag s end pos v q low k = rw (← q .read pos, good-tag (v .value) (v .value % 8) low (q .small) refl k)
@@ -161,13 +170,13 @@ module _ (s : Bytes) (t : Tag) (end : ℕ) where
       read = ap pass k ∙ fits-there (v .value) (v .next) 0 (v .next) (omega arith) h ∙ as-number w v e;
     }
 
-    pub quick-length : (v : Varint) → Few s end (t .next) v → t .wire ≡ 2 → {next : ℕ} → next ≡ v .next + v .value → next ≤ end
+    pub quick-length : (v : Number) → Few s end (t .next) v → t .wire ≡ 2 → {next : ℕ} → next ≡ v .next + v .value → next ≤ end
         → f ≡ fieldOf t 0 (v .next) next
         → QuickValue s t end f
     unfolding contains
     quick-length v q w {next} e h k = record {
       good = a-wire 2 w refl;
-      read = ap pass k ∙ fits-there 0 (v .next) (v .value) next e h ∙ as-length w v (q .read (t .place));
+      read = ap pass k ∙ fits-there 0 (v .next) (v .value) next e h ∙ as-length w (record { value = v .value; next = v .next; shortest = true }) (q .read (t .place));
     }
 
     pub quick-fixed : {size : ℕ} → Fixed (t .wire) size → {next : ℕ} → next ≡ t .next + size → next ≤ end → f ≡ fieldOf t 0 (t .next) next → QuickValue s t end f

@@ -1,5 +1,5 @@
 -- What is read with few tests, where it has a usual size: varints, tags, values.
-use Prim.Native.Nat.{ℕ, _^_, _≤_, _<_}
+use Prim.Native.Nat.{ℕ, _+_, _^_, _≤_, _<_}
 use mathlib.Core.Path.{_≡_}
 use mathlib.Core.Bool.{true}
 use mathlib.Core.List.{List, [], _∷_}
@@ -8,15 +8,15 @@ use Rattle.varint.specs.Lists.{contains}
 use Rattle.varint.specs.Bytes.{Bytes}
 use Rattle.varint.specs.Varint.{shortestVarint}
 use Rattle.wire.specs.Wire.{VARINT, I64, LEN, I32, tag, sized, value}
-use Rattle.varint.specs.declared.Varint.{Varint}
+use Rattle.wire.specs.declared.shorts.Number.{Number}
 use Rattle.wire.specs.declared.Tag.{Tag}
 use Rattle.wire.specs.declared.Field.{Field}
 
 -- A varint in its shortest form that is read at a place, whatever field it is of. It is too short for a tag above 2^32 - 1.
-pub record Few (model : Bytes) (end pos : ℕ) (v : Varint) : Type 0 where
+pub record Few (model : Bytes) (end pos : ℕ) (v : Number) : Type 0 where
   pub inside : v .next ≤ end
   pub small : v .value < 2 ^ 32
-  pub read : (place : ℕ) → pass v ≡ shortestVarint model place end pos
+  pub read : (place : ℕ) → pass (record { value = v .value; next = v .next; shortest = true }) ≡ shortestVarint model place end pos
 
 -- Some varint in its shortest form is read at a place, and ends at `next`.
 pub record Many (model : Bytes) (end pos next : ℕ) : Type 0 where
@@ -38,6 +38,13 @@ fieldOf t value start next = record { place = t .place; number = t .number; wire
 pub record Fixed (wire size : ℕ) : Type 0 where
   pub good : contains wire wires ≡ true
   pub read : (model : Bytes) (t : Tag) (end : ℕ) → t .wire ≡ wire → sized t end 0 (t .next) size ≡ value model t end
+
+-- Where a value of fixed size ends.
+pub record FixedEnd (wire from end next : ℕ) : Type 0 where
+  pub size : ℕ
+  pub fixed : Fixed wire size
+  pub is : next ≡ from + size
+  pub inside : next ≤ end
 
 -- The field of a tag, and its wire type is one.
 pub record QuickValue (model : Bytes) (t : Tag) (end : ℕ) (f : Field) : Type 0 where

@@ -7,7 +7,7 @@ ghost use Prim.Native.Nat.{_+_, _%_, _<_, _≤_};
 ghost use Rattle.varint.specs.Outcome.{pass};
 ghost use Rattle.varint.specs.Varint.{varint};
 ghost use Rattle.wire.specs.Short.{Short, shortField};
-ghost use Rattle.wire.specs.Quick.{QuickTag, Fixed, QuickValue, Long, fieldOf};
+ghost use Rattle.wire.specs.Quick.{QuickTag, Fixed, FixedEnd, QuickValue, Long, fieldOf};
 ghost use Rattle.varint.specs.declared.Varint.{Varint};
 use crate::Field;
 use crate::Tag;
@@ -15,6 +15,7 @@ use crate::cursors::I32;
 use crate::cursors::I64;
 use crate::cursors::LEN;
 use crate::cursors::VARINT;
+use crate::shorts::Number;
 use crate::shorts::few_bytes;
 use crate::shorts::many_end;
 use varint::VarintAnswer;
@@ -77,7 +78,39 @@ fn fixed_size(wire: u64) -> usize
     0
 }
 
-// The field of a tag, if its value or length has one to three bytes, or a fixed size.
+// Where a value of fixed size ends; 0, if it has none or runs past the message.
+fn fixed_end(wire: u64, from: usize, end: usize) -> usize
+    ensures { λ r. ⌜ (0 < r → FixedEnd wire from end r) ⌝ }
+{
+    let size = fixed_size(wire);
+    if size == 0 {
+        return 0;
+    }
+    if end < from {
+        return 0;
+    }
+    if end - from < size {
+        return 0;
+    }
+    from + size
+}
+
+// Where contents of a length end; 0, if the length was not read or they run past the message.
+fn contents_end(n: Number, end: usize) -> usize
+    requires { ⌜ n .next ≤ end ⌝ }
+    ensures { λ r. ⌜ (0 < r → (0 < n .next) × (r ≡ n .next + n .value) × (r ≤ end)) ⌝ }
+{
+    if n.next == 0 {
+        return 0;
+    }
+    if ((end - n.next) as u64) < n.value {
+        return 0;
+    }
+    n.next + n.value as usize
+}
+
+// The field of a tag, if its value or length has one to three bytes, or a fixed size. Its end alone says whether it was read: with fewer
+// ways out it is small enough for the compiler to put where it is called.
 pub(crate) fn quick_value(s: &[u8], t: Tag, end: usize) -> Field
     ensures { λ r. ⌜ (0 < r .next → QuickValue (now (s .entry)) t end r) ⌝ }
 {
@@ -85,28 +118,12 @@ pub(crate) fn quick_value(s: &[u8], t: Tag, end: usize) -> Field
     let from = t.next;
     let n = few_bytes(s, from, end);
     if wire == LEN {
-        if n.next == 0 {
-            return field_of(t, 0, 0, 0);
-        }
-        if ((end - n.next) as u64) < n.value {
-            return field_of(t, 0, 0, 0);
-        }
-        return field_of(t, 0, n.next, n.next + n.value as usize);
+        return field_of(t, 0, n.next, contents_end(n, end));
     }
     if wire == VARINT {
         return field_of(t, n.value, n.next, n.next);
     }
-    let size = fixed_size(wire);
-    if size == 0 {
-        return field_of(t, 0, 0, 0);
-    }
-    if end < from {
-        return field_of(t, 0, 0, 0);
-    }
-    if end - from < size {
-        return field_of(t, 0, 0, 0);
-    }
-    field_of(t, 0, from, from + size)
+    field_of(t, 0, from, fixed_end(wire, from, end))
 }
 
 // Where the field of a tag ends, if it is a number of any size with room for ten bytes.

@@ -2,17 +2,18 @@
 ghost use mathlib.Core.Path.{_≡_};
 ghost use Prim.Native.Nat.{_<_};
 ghost use Rattle.wire.specs.Quick.{Few, Many};
-use varint::Varint;
 use varint::wide;
 
-fn unread() -> Varint
+// A varint in its shortest form: its value, and where it ends. Two numbers, so that it stays in registers.
+pub(crate) struct Number {
+    pub(crate) value: u64,
+    pub(crate) next: usize,
+}
+
+fn unread() -> Number
     ensures { λ r. ⌜ r .next ≡ 0 ⌝ }
 {
-    Varint {
-        value: 0,
-        next: 0,
-        shortest: true,
-    }
+    Number { value: 0, next: 0 }
 }
 
 // Where a varint of more than one byte ends; 0, if it is padded.
@@ -25,9 +26,8 @@ fn end_of(next: usize, last: u64) -> usize
     next
 }
 
-// The varint at a place, if it has one to three bytes, as most have. If not, or where a fault is, it ends at 0: a struct and no enum,
-// so that it stays in registers.
-pub(crate) fn few_bytes(s: &[u8], at: usize, end: usize) -> Varint
+// The varint at a place, if it has one to three bytes, as most have. If not, or where a fault is, it ends at 0.
+pub(crate) fn few_bytes(s: &[u8], at: usize, end: usize) -> Number
     ensures { λ r. ⌜ (0 < r .next → Few (now (s .entry)) end at r) ⌝ }
 {
     if end <= at {
@@ -38,33 +38,29 @@ pub(crate) fn few_bytes(s: &[u8], at: usize, end: usize) -> Varint
     }
     let a = wide(s[at]);
     if a < 128 {
-        return Varint {
+        return Number {
             value: a,
             next: at + 1,
-            shortest: true,
         };
     }
-    let room = end - at;
-    if room < 2 {
+    if end <= at + 1 {
         return unread();
     }
     let b = wide(s[at + 1]);
     if b < 128 {
-        return Varint {
+        return Number {
             value: a - 128 + 128 * b,
             next: end_of(at + 2, b),
-            shortest: true,
         };
     }
-    if room < 3 {
+    if end <= at + 2 {
         return unread();
     }
     let c = wide(s[at + 2]);
     if c < 128 {
-        return Varint {
-            value: a - 128 + 128 * (b - 128) + 16384 * c,
+        return Number {
+            value: a + 128 * b + 16384 * c - 16512,
             next: end_of(at + 3, c),
-            shortest: true,
         };
     }
     unread()
