@@ -1,8 +1,8 @@
 -- One content, one encoding.
 use Prim.Native.Nat.{_-_}
 use native.Mathlib.Omega.{arith}
-use mathlib.Core.Path.{_≡_, refl, sym, ap, _∙_}
-use mathlib.Core.List.{List, [], _∷_, map, flatMap}
+use mathlib.Core.Path.{_≡_, sym, ap, _∙_}
+use mathlib.Core.List.{List, [], map, flatMap}
 use lib.ListN.{length}
 use lib.Seq.{take-all}
 use Rattle.varint.specs.Outcome.{pass}
@@ -10,7 +10,7 @@ use Rattle.varint.specs.Bytes.{Bytes, part}
 use Rattle.varint.specs.Encoding.{Octets}
 use Rattle.varint.proofs.ShortestLaws.{padded-exactly}
 use Rattle.wire.specs.Message.{text, message, whole}
-use Rattle.wire.specs.Encoding.{Said, said, encoded}
+use Rattle.wire.specs.Encoding.{said, encoded}
 use Rattle.wire.specs.declared.Field.{Field}
 use Rattle.wire.proofs.EncodingLaws.{field-written, message-written}
 use Rattle.schema.specs.declared.Kind.the-variants.{Model}

@@ -2,13 +2,13 @@
 use Prim.Native.Nat.{ℕ, zero, suc, _+_, _-_, _*_, _/_, _%_, _≤_, _<_}
 use native.Mathlib.Omega.{arith}
 use mathlib.Core.Path.{_≡_, refl, sym, ap, _∙_}
-use mathlib.Core.Bool.{Bool, true, false, not, _||_}
-use mathlib.Core.List.{List, [], _∷_, _++_}
-use lib.Dec.{T, leb, ltb, eqb, nleb→lt, leb→le, nltb→le}
+use mathlib.Core.Bool.{Bool, true, false, _||_}
+use mathlib.Core.List.{_∷_, _++_}
+use lib.Dec.{leb, ltb, eqb, nleb→lt, leb→le, nltb→le}
 use lib.ListN.{length, take, drop, length-take, length-drop}
 use lib.Seq.{drop-cons, drop-drop, take-add}
 use borrow.Author.Tests.{ne-eqb, le-ltb, lt-ltb}
-use Rattle.varint.specs.Outcome.{pass, fail, _>>=_, Judged, refuse_at:_when:_}
+use Rattle.varint.specs.Outcome.{pass, _>>=_, Judged, refuse_at:_when:_}
 use Rattle.varint.specs.Bytes.{Bytes, byte, part}
 use Rattle.varint.specs.Varint.{varintFrom, varint, shortestVarint}
 use Rattle.varint.specs.Encoding.{encodeFrom, encode, Octets}

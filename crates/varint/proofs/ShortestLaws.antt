@@ -6,7 +6,7 @@ use mathlib.Core.Logic.{_↔_}
 use mathlib.Core.Bool.{Bool, true, false, not, _||_, true≢false}
 use lib.Dec.{T, leb, ltb, eqb, leb→le, nleb→lt, nltb→le}
 use borrow.Author.Tests.{ne-eqb}
-use Rattle.varint.specs.Outcome.{pass, fail, _>>=_, _>>_, Judged, refused, refuse_at:_when:_}
+use Rattle.varint.specs.Outcome.{pass, _>>=_, _>>_, Judged, refused, refuse_at:_when:_}
 use Rattle.varint.specs.Bytes.{Bytes, byte}
 use Rattle.varint.specs.Varint.{varintFrom, varint, shortestVarint}
 use Rattle.varint.specs.Answers.{varintSays}

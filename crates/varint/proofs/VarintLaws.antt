@@ -4,13 +4,13 @@ use native.Mathlib.Omega.{arith}
 use native.Mathlib.Nat.{mul-le-mul-left, mul-add, mul-assoc}
 use mathlib.Core.Path.{_≡_, refl, sym, ap, _∙_}
 use mathlib.Core.Logic.{_⊎_, inl, inr}
-use mathlib.Core.Bool.{Bool, true, false, not, _&&_, _||_}
+use mathlib.Core.Bool.{Bool, true, false, _&&_, _||_}
 use lib.Dec.{T, leb, ltb, eqb, le→leb, eqb→eq}
 use mir.Facts.{no-leb}
 use borrow.Author.Tests.{ne-eqb}
 use Rattle.varint.specs.Outcome.{pass, fail, _>>=_, _>>_, Judged, refused, refuse_at:_when:_}
 use Rattle.varint.specs.Bytes.{Bytes, byte}
-use Rattle.varint.specs.Varint.{varintFrom, varint, shortestVarint}
+use Rattle.varint.specs.Varint.{varintFrom, varint}
 use Rattle.varint.specs.declared.Varint.{Varint}
 use Rattle.varint.proofs.Lists.{T-true, T-false, or-true}
 

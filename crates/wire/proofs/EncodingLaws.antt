@@ -3,21 +3,20 @@ use Prim.Native.Nat.{ℕ, zero, suc, _+_, _-_, _*_, _/_, _%_, _≤_, _<_}
 use native.Mathlib.Omega.{arith}
 use mathlib.Core.Path.{_≡_, refl, sym, ap, ap₂, _∙_}
 use mathlib.Core.Bool.{Bool, true, false}
-use mathlib.Core.List.{List, [], _∷_, _++_, map, flatMap, append-assoc}
+use mathlib.Core.List.{[], _∷_, _++_, map, flatMap}
 use lib.Dec.{leb, ltb, eqb, nltb→le}
 use lib.ListN.{length}
 use Rattle.varint.specs.Outcome.{pass, fail, _>>=_, Judged, refuse_at:_when:_}
 use Rattle.varint.specs.Bytes.{Bytes, part}
 use Rattle.varint.specs.Varint.{shortestVarint}
 use Rattle.varint.specs.Encoding.{encode, Octets}
-use Rattle.varint.specs.declared.Varint.{Varint}
 use Rattle.wire.specs.Wire.{badTag, tag, sized, value, field, fieldsFrom, fields}
 use Rattle.wire.specs.Message.{text, message}
 use Rattle.wire.specs.Order.{Gapless}
-use Rattle.wire.specs.Encoding.{Said, said, encodedValue, encoded}
+use Rattle.wire.specs.Encoding.{said, encodedValue, encoded}
 use Rattle.wire.specs.declared.Tag.{Tag}
 use Rattle.wire.specs.declared.Field.{Field}
-use Rattle.varint.proofs.Passing.{passed-bind, passed-seq, passed-rule, pass-same, fail-no-pass}
+use Rattle.varint.proofs.Passing.{passed-bind, passed-seq, passed-rule, pass-same}
 use Rattle.varint.proofs.EncodingLaws.{part-join, part-length, varint-written}
 
 -- the field that a size makes
