@@ -1,20 +1,20 @@
 -- The bytes of a varint that is not padded are its number's shortest form.
-use Prim.Native.Nat.{ℕ, zero, suc, _+_, _-_, _*_, _/_, _%_, _≤_, _<_}
+use Prim.Native.Nat.{ℕ, suc, _+_, _-_, _*_, _/_, _%_, _≤_, _<_}
 use native.Mathlib.Omega.{arith}
-use mathlib.Core.Path.{_≡_, refl, sym, ap, _∙_}
+use mathlib.Core.Path.{_≡_, refl, ap, _∙_}
 use mathlib.Core.Bool.{Bool, true, false, _||_}
 use mathlib.Core.List.{_∷_, _++_}
-use lib.Dec.{leb, ltb, eqb, nleb→lt, leb→le, nltb→le}
+use lib.Dec.{ltb, eqb, leb→le}
 use lib.ListN.{length, take, drop, length-take, length-drop}
 use lib.Seq.{drop-cons, drop-drop, take-add}
 use borrow.Author.Tests.{ne-eqb, le-ltb, lt-ltb}
-use Rattle.varint.specs.Outcome.{pass, _>>=_, Judged, refuse_at:_when:_}
+use Rattle.varint.specs.Outcome.{pass}
 use Rattle.varint.specs.Bytes.{Bytes, byte, part}
-use Rattle.varint.specs.Varint.{varintFrom, varint, shortestVarint}
+use Rattle.varint.specs.Varint.{varint, shortestVarint}
 use Rattle.varint.specs.Encoding.{encodeFrom, encode, Octets}
 use Rattle.varint.specs.declared.Varint.{Varint}
 use Rattle.varint.proofs.Lists.{true-T}
-use Rattle.varint.proofs.Passing.{passed-bind, passed-seq, passed-rule, pass-same, fail-no-pass}
+use Rattle.varint.proofs.VarintLaws.{varint-each}
 use Rattle.varint.proofs.ShortestLaws.{shortest-is}
 
 -- ---- parts, one after the other
@@ -54,79 +54,49 @@ module _ (s : Bytes) (octets : Octets s) (place end : ℕ) (inside : end ≤ len
     bytes : part pos (v .next - pos) s ≡ encodeFrom left (v .value)
     some : left < 10 → 0 < v .value
 
-  written-last : (left pos : ℕ) (v : Varint) → suc left ≤ 10 → pos < end → byte s pos < 128
-      → v ≡ record { value = byte s pos; next = pos + 1; shortest = eqb left 9 || ltb 0 (byte s pos) } → v .shortest ≡ true
-      → Written (suc left) pos v
-  unfolding encodeFrom part
-  written-last left pos v l h k e short =
-      let n : v .next ≡ pos + 1 = ap (λ (x : Varint). x .next) e in
-      let w : v .value ≡ byte s pos = ap (λ (x : Varint). x .value) e in
-      let b : (eqb left 9 || ltb 0 (byte s pos)) ≡ true = sym (ap (λ (x : Varint). x .shortest) e) ∙ short in
+  Whole : (left pos : ℕ) → Varint → Type 0
+  Whole left pos v = v .shortest ≡ true → Written left pos v
+
+  written-last : (left pos : ℕ) → suc left ≤ 10 → pos < end → byte s pos < 128
+      → Whole (suc left) pos (record { value = byte s pos; next = pos + 1; shortest = eqb left 9 || ltb 0 (byte s pos) })
+  unfolding Whole encodeFrom part
+  written-last left pos l h k short =
       let none : pos + 1 - (pos + 1) ≡ 0 = omega arith in
       record {
         onward = omega arith;
         within = omega arith;
-        bytes = rw (n, w) (part-first s pos (pos + 1) (omega arith) (omega arith) ∙ rw (none, lt-ltb (byte s pos) 128 k, encodeFrom) refl);
-        some = λ m. rw w (above (ltb 0 (byte s pos)) refl (rw (ne-eqb left 9 (λ z. omega arith)) at b));
+        bytes = part-first s pos (pos + 1) (omega arith) (omega arith) ∙ rw (none, lt-ltb (byte s pos) 128 k, encodeFrom) refl;
+        some = λ m. above (ltb 0 (byte s pos)) refl (rw (ne-eqb left 9 (λ z. omega arith)) at short);
       }
     where
       above : (c : Bool) → ltb 0 (byte s pos) ≡ c → c ≡ true → 0 < byte s pos
       above true e t = leb→le 1 (byte s pos) (true-T _ e)
       above false e t = absurd (true-T false t)
 
-  written-more : (left pos : ℕ) (v high : Varint) → suc left ≤ 10 → pos < end → 128 ≤ byte s pos
-      → v ≡ record { value = byte s pos % 128 + 128 * high .value; next = high .next; shortest = high .shortest }
-      → Written left (pos + 1) high
-      → Written (suc left) pos v
-  unfolding encodeFrom
-  written-more left pos v high l h k e ih =
-      let n : v .next ≡ high .next = ap (λ (x : Varint). x .next) e in
-      let w : v .value ≡ byte s pos % 128 + 128 * high .value = ap (λ (x : Varint). x .value) e in
+  written-more : (left pos : ℕ) (high : Varint) → suc left ≤ 10 → pos < end → 128 ≤ byte s pos → Whole left (pos + 1) high
+      → Whole (suc left) pos (record { value = byte s pos % 128 + 128 * high .value; next = high .next; shortest = high .shortest })
+  unfolding Whole encodeFrom
+  written-more left pos high l h k whole short =
+      let ih = whole short in
       let far = ih .onward in
       let near = ih .within in
       let some : 0 < high .value = ih .some (omega arith) in
-      let small = octets pos in
       let big : ltb (byte s pos % 128 + 128 * high .value) 128 ≡ false = le-ltb (byte s pos % 128 + 128 * high .value) 128 (omega arith) in
-      let here = low-seven (byte s pos) (high .value) k small in
+      let here = low-seven (byte s pos) (high .value) k (octets pos) in
       let up = high-bits (byte s pos) (high .value) in
       let first = part-first s pos (high .next) (omega arith) (omega arith) in
       record {
         onward = omega arith;
         within = omega arith;
-        bytes = rw (n, w) (first ∙ rw (big, here, up, encodeFrom) (ap (λ (x : Bytes). byte s pos ∷ x) (ih .bytes)));
+        bytes = first ∙ rw (big, here, up, encodeFrom) (ap (λ (x : Bytes). byte s pos ∷ x) (ih .bytes));
         some = λ m. omega arith;
       }
-
-  written : (left pos : ℕ) (v : Varint) → left ≤ 10 → varintFrom s left place end pos ≡ pass v → v .shortest ≡ true → Written left pos v
-  unfolding varintFrom
-  written zero pos v l e short = absurd (fail-no-pass _ v e)
-  written (suc left) pos v l e short =
-      let a = passed-seq (refuse 1 at: place when: leb end pos) _ v e in
-      let b = passed-seq _ _ v (a .1) in
-      let h = nleb→lt end pos (passed-rule 1 place (leb end pos) (a .0)) in
-      go (ltb (byte s pos) 128) refl (b .1) h (λ high m q. written left (pos + 1) high (omega arith) m q)
-    where
-      go : (c : Bool) → ltb (byte s pos) 128 ≡ c
-          → _≡_ {A = Judged Varint} (elim c [
-            | true ↦ pass (record { value = byte s pos; next = pos + 1; shortest = eqb left 9 || ltb 0 (byte s pos) })
-            | false ↦ varintFrom s left place end (pos + 1)
-                >>= λ high. pass (record { value = byte s pos % 128 + 128 * high .value; next = high .next; shortest = high .shortest })
-          ]) (pass v)
-          → pos < end
-          → ((high : Varint) → varintFrom s left place end (pos + 1) ≡ pass high → high .shortest ≡ true → Written left (pos + 1) high)
-          → Written (suc left) pos v
-      go true k p h ih = written-last left pos v l h (leb→le (suc (byte s pos)) 128 (true-T _ k)) (sym (pass-same _ v p)) short
-      go false k p h ih =
-          let q = passed-bind (varintFrom s left place end (pos + 1)) _ v p in
-          let same : v ≡ record { value = byte s pos % 128 + 128 * q .0 .value; next = q .0 .next; shortest = q .0 .shortest } = sym (pass-same _ v (q .2)) in
-          let some = sym (ap (λ (x : Varint). x .shortest) same) ∙ short in
-          written-more left pos v (q .0) l h (nltb→le (byte s pos) 128 (rw k tt)) same (ih (q .0) (q .1) some)
 
   -- "whether the form was the shortest": then it is the form that is written
   pub varint-written : (pos : ℕ) (v : Varint) → shortestVarint s place end pos ≡ pass v
       → (pos < v .next) × (v .next ≤ end) × (part pos (v .next - pos) s ≡ encode (v .value))
-  unfolding encode varint
+  unfolding encode varint Whole
   varint-written pos v e =
       let k = shortest-is s place end pos v e in
-      let w = written 10 pos v (omega arith) (k .0) (k .1) in
+      let w = varint-each s place end Whole written-last written-more 10 pos v (omega arith) (k .0) (k .1) in
       (w .onward, w .within, w .bytes)

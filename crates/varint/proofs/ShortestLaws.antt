@@ -1,5 +1,5 @@
 -- A varint that must have its shortest form: each case, with what a reader knows there.
-use Prim.Native.Nat.{ℕ, zero, suc, _+_, _-_, _*_, _%_, _≤_, _<_}
+use Prim.Native.Nat.{ℕ, suc, _+_, _-_, _*_, _%_, _≤_, _<_}
 use native.Mathlib.Omega.{arith}
 use mathlib.Core.Path.{_≡_, refl, sym, ap, _∙_}
 use mathlib.Core.Logic.{_↔_}
@@ -8,15 +8,15 @@ use lib.Dec.{T, leb, ltb, eqb, leb→le, nleb→lt, nltb→le}
 use borrow.Author.Tests.{ne-eqb}
 use Rattle.varint.specs.Outcome.{pass, _>>=_, _>>_, Judged, refused, refuse_at:_when:_}
 use Rattle.varint.specs.Bytes.{Bytes, byte}
-use Rattle.varint.specs.Varint.{varintFrom, varint, shortestVarint}
+use Rattle.varint.specs.Varint.{varint, shortestVarint}
 use Rattle.varint.specs.Answers.{varintSays}
 use Rattle.varint.specs.declared.Refusal.{Refusal}
 use Rattle.varint.specs.declared.Varint.{Varint}
 use Rattle.varint.specs.declared.VarintAnswer.{VarintAnswer}
 use Rattle.varint.specs.declared.VarintAnswer.the-variants as answer
 use Rattle.varint.proofs.Answers.{says}
-use Rattle.varint.proofs.Passing.{passed-bind, passed-seq, passed-rule, pass-same, fail-no-pass}
-use Rattle.varint.proofs.VarintLaws.{one-byte}
+use Rattle.varint.proofs.Passing.{passed-bind, passed-seq, passed-rule, pass-same}
+use Rattle.varint.proofs.VarintLaws.{one-byte, varint-each}
 
 -- the rule on what was read
 ruled : (place : ℕ) → Judged Varint → Judged Varint
@@ -79,53 +79,32 @@ module _ (s : Bytes) (place end : ℕ) where
     at-once : v .next ≡ pos + 1 → v .shortest ≡ (eqb (left - 1) 9 || ltb 0 (byte s pos))
     later : pos + 1 < v .next → v .shortest ≡ ltb 0 (byte s (v .next - 1))
 
-  flag-last : (left pos : ℕ) (v : Varint) → v ≡ record { value = byte s pos; next = pos + 1; shortest = eqb left 9 || ltb 0 (byte s pos) } → Flagged (suc left) pos v
-  flag-last left pos v e =
-      let n : v .next ≡ pos + 1 = ap (λ (x : Varint). x .next) e in
-      let one : suc left - 1 ≡ left = omega arith in
+  flag-last : (left pos : ℕ) → suc left ≤ 10 → pos < end → byte s pos < 128
+      → Flagged (suc left) pos (record { value = byte s pos; next = pos + 1; shortest = eqb left 9 || ltb 0 (byte s pos) })
+  flag-last left pos l h k =
+      let one : left ≡ suc left - 1 = omega arith in
       record {
         onward = omega arith;
-        at-once = λ z. ap (λ (x : Varint). x .shortest) e ∙ ap (λ (x : ℕ). eqb x 9 || ltb 0 (byte s pos)) (sym one);
+        at-once = λ z. ap (λ (x : ℕ). eqb x 9 || ltb 0 (byte s pos)) one;
         later = λ z. absurd (omega arith);
       }
 
-  flag-more : (left pos : ℕ) (v high : Varint) → suc left ≤ 10 → v .next ≡ high .next → v .shortest ≡ high .shortest
-      → Flagged left (pos + 1) high
-      → Flagged (suc left) pos v
-  flag-more left pos v high l n e q =
+  flag-more : (left pos : ℕ) (high : Varint) → suc left ≤ 10 → pos < end → 128 ≤ byte s pos → Flagged left (pos + 1) high
+      → Flagged (suc left) pos (record { value = byte s pos % 128 + 128 * high .value; next = high .next; shortest = high .shortest })
+  flag-more left pos high l h k q =
       let far = q .onward in
       record {
         onward = omega arith;
         at-once = λ z. absurd (omega arith);
-        later = λ z. e ∙ go (leb (high .next) (pos + 1 + 1)) (leb→le (high .next) (pos + 1 + 1)) (nleb→lt (high .next) (pos + 1 + 1));
+        later = λ z. go (leb (high .next) (pos + 1 + 1)) (leb→le (high .next) (pos + 1 + 1)) (nleb→lt (high .next) (pos + 1 + 1));
       }
     where
-      go : (b : Bool) → (T b → high .next ≤ pos + 1 + 1) → (T (not b) → pos + 1 + 1 < high .next) → high .shortest ≡ ltb 0 (byte s (v .next - 1))
+      go : (b : Bool) → (T b → high .next ≤ pos + 1 + 1) → (T (not b) → pos + 1 + 1 < high .next) → high .shortest ≡ ltb 0 (byte s (high .next - 1))
       go true near far =
           let last : high .next ≡ pos + 1 + 1 = let k = near tt in let m = q .onward in omega arith in
-          let here : pos + 1 ≡ v .next - 1 = omega arith in
+          let here : pos + 1 ≡ high .next - 1 = omega arith in
           q .at-once last ∙ ap (λ (b : Bool). b || ltb 0 (byte s (pos + 1))) (ne-eqb (left - 1) 9 (λ z. omega arith)) ∙ ap (λ (x : ℕ). ltb 0 (byte s x)) here
-      go false near far = q .later (far tt) ∙ ap (λ (x : ℕ). ltb 0 (byte s (x - 1))) (sym n)
-
-  flagged : (left pos : ℕ) (v : Varint) → left ≤ 10 → varintFrom s left place end pos ≡ pass v → Flagged left pos v
-  unfolding varintFrom
-  flagged zero pos v l e = absurd (fail-no-pass _ v e)
-  flagged (suc left) pos v l e =
-      go (ltb (byte s pos) 128) (passed-seq _ _ v (passed-seq (refuse 1 at: place when: leb end pos) _ v e .1) .1) (λ high m. flagged left (pos + 1) high (omega arith) m)
-    where
-      go : (c : Bool)
-          → _≡_ {A = Judged Varint} (elim c [
-            | true ↦ pass (record { value = byte s pos; next = pos + 1; shortest = eqb left 9 || ltb 0 (byte s pos) })
-            | false ↦ varintFrom s left place end (pos + 1)
-                >>= λ high. pass (record { value = byte s pos % 128 + 128 * high .value; next = high .next; shortest = high .shortest })
-          ]) (pass v)
-          → ((high : Varint) → varintFrom s left place end (pos + 1) ≡ pass high → Flagged left (pos + 1) high)
-          → Flagged (suc left) pos v
-      go true p ih = flag-last left pos v (sym (pass-same _ v p))
-      go false p ih =
-          let q = passed-bind (varintFrom s left place end (pos + 1)) _ v p in
-          let same : v ≡ record { value = byte s pos % 128 + 128 * q .0 .value; next = q .0 .next; shortest = q .0 .shortest } = sym (pass-same _ v (q .2)) in
-          flag-more left pos v (q .0) l (ap (λ (x : Varint). x .next) same) (ap (λ (x : Varint). x .shortest) same) (ih (q .0) (q .1))
+      go false near far = q .later (far tt)
 
   pub padded-exactly : (pos : ℕ) (v : Varint) → varint s place end pos ≡ pass v → (v .shortest ≡ false) ↔ ((pos + 1 < v .next) × (byte s (v .next - 1) ≡ 0))
   unfolding varint
@@ -135,7 +114,7 @@ module _ (s : Bytes) (place end : ℕ) where
   )
     where
       q : Flagged 10 pos v
-      q = flagged 10 pos v (omega arith) e
+      q = varint-each s place end Flagged flag-last flag-more 10 pos v (omega arith) e
 
       zero-byte : (b : ℕ) → ltb 0 b ≡ false → b ≡ 0
       zero-byte b k = let h = nltb→le 0 b (rw k tt) in omega arith

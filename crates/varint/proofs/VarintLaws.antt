@@ -2,17 +2,18 @@
 use Prim.Native.Nat.{ℕ, min, zero, suc, _+_, _-_, _*_, _%_, _^_, _≤_, _<_}
 use native.Mathlib.Omega.{arith}
 use native.Mathlib.Nat.{mul-le-mul-left, mul-add, mul-assoc}
-use mathlib.Core.Path.{_≡_, refl, sym, ap, _∙_}
+use mathlib.Core.Path.{_≡_, refl, sym, subst, ap, _∙_}
 use mathlib.Core.Logic.{_⊎_, inl, inr}
 use mathlib.Core.Bool.{Bool, true, false, _&&_, _||_}
-use lib.Dec.{T, leb, ltb, eqb, le→leb, eqb→eq}
+use lib.Dec.{T, leb, ltb, eqb, le→leb, eqb→eq, leb→le, nleb→lt, nltb→le}
 use mir.Facts.{no-leb}
 use borrow.Author.Tests.{ne-eqb}
 use Rattle.varint.specs.Outcome.{pass, fail, _>>=_, _>>_, Judged, refused, refuse_at:_when:_}
 use Rattle.varint.specs.Bytes.{Bytes, byte}
 use Rattle.varint.specs.Varint.{varintFrom, varint}
 use Rattle.varint.specs.declared.Varint.{Varint}
-use Rattle.varint.proofs.Lists.{T-true, T-false, or-true}
+use Rattle.varint.proofs.Lists.{T-true, T-false, true-T, or-true}
+use Rattle.varint.proofs.Passing.{fail-no-pass, pass-same, passed-bind, passed-seq, passed-rule}
 
 -- ---- the definition, case by case; at the tenth byte `left` is 1
 
@@ -227,3 +228,37 @@ module _ {s : Bytes} {place end from stop pos value scale : ℕ} (q : Going s pl
 
     pub go-end : (b : ℕ) → b ≡ byte s pos → b ≤ 1 → pass (record { value = value + scale * b; next = pos + 1; shortest = ltb 0 b }) ≡ varint s place end from
     go-end b e l = turn-last (q .reads) b (λ z. omega (arith, tenth)) k (inl (tenth, l)) e (omega arith)
+
+-- ---- what was read, from its last byte back: a property of what is read from each byte on
+
+module _ (s : Bytes) (place end : ℕ) (P : (left pos : ℕ) → Varint → Type 0) where
+  abbrev pub Last : Type 0
+  Last = (left pos : ℕ) → suc left ≤ 10 → pos < end → byte s pos < 128
+      → P (suc left) pos (record { value = byte s pos; next = pos + 1; shortest = eqb left 9 || ltb 0 (byte s pos) })
+
+  abbrev pub More : Type 0
+  More = (left pos : ℕ) (high : Varint) → suc left ≤ 10 → pos < end → 128 ≤ byte s pos
+      → P left (pos + 1) high
+      → P (suc left) pos (record { value = byte s pos % 128 + 128 * high .value; next = high .next; shortest = high .shortest })
+
+  pub varint-each : Last → More → (left pos : ℕ) (v : Varint) → left ≤ 10 → varintFrom s left place end pos ≡ pass v → P left pos v
+  unfolding varintFrom
+  varint-each last more zero pos v l e = absurd (fail-no-pass _ v e)
+  varint-each last more (suc left) pos v l e =
+      let a = passed-seq (refuse 1 at: place when: leb end pos) _ v e in
+      let h = nleb→lt end pos (passed-rule 1 place (leb end pos) (a .0)) in
+      go (ltb (byte s pos) 128) refl (passed-seq _ _ v (a .1) .1) h (λ high m. varint-each last more left (pos + 1) high (omega arith) m)
+    where
+      go : (c : Bool) → ltb (byte s pos) 128 ≡ c
+          → _≡_ {A = Judged Varint} (elim c [
+            | true ↦ pass (record { value = byte s pos; next = pos + 1; shortest = eqb left 9 || ltb 0 (byte s pos) })
+            | false ↦ varintFrom s left place end (pos + 1)
+                >>= λ high. pass (record { value = byte s pos % 128 + 128 * high .value; next = high .next; shortest = high .shortest })
+          ]) (pass v)
+          → pos < end
+          → ((high : Varint) → varintFrom s left place end (pos + 1) ≡ pass high → P left (pos + 1) high)
+          → P (suc left) pos v
+      go true k p h ih = subst (P (suc left) pos) (pass-same _ v p) (last left pos l h (leb→le (suc (byte s pos)) 128 (true-T _ k)))
+      go false k p h ih =
+          let q = passed-bind (varintFrom s left place end (pos + 1)) _ v p in
+          subst (P (suc left) pos) (pass-same _ v (q .2)) (more left pos (q .0) l h (nltb→le (byte s pos) 128 (rw k tt)) (ih (q .0) (q .1)))
