@@ -44,6 +44,7 @@ fn unheaded(number: u8, place: usize) -> Heading
     Heading::Refused(Refusal {
         number: number,
         place: place,
+        first: 0,
     })
 }
 

@@ -33,12 +33,14 @@ fn decide(model: &[u8], is_model_longer: bool, list: &[u8], is_list_longer: bool
         return Answer::Refused(Refusal {
             number: Ruling::MODEL_TOO_LARGE,
             place: 0,
+            first: 0,
         });
     }
     if is_list_longer {
         return Answer::Refused(Refusal {
             number: Ruling::LIST_UNSOUND,
             place: 0,
+            first: 0,
         });
     }
     let mut cells = [0u32; 4096];

@@ -1,5 +1,5 @@
 -- What is accepted with some cells, and what more of them change: the verdict, from what `Cells` says of the second walk.
-use Prim.Native.Nat.{ℕ, _≤_, _<_}
+use Prim.Native.Nat.{ℕ, _/_, _≤_, _<_}
 use native.Mathlib.Omega.{arith}
 use mathlib.Core.Path.{_≡_, refl, ap, subst, subst⁻¹}
 use mathlib.Core.Logic.{inl}
@@ -12,7 +12,7 @@ use Rattle.varint.specs.Bytes.{Bytes}
 use Rattle.operators.specs.Operators.{sound}
 use Rattle.schema.specs.FirstWalk.{firstWalk}
 use Rattle.rules.specs.Header.{secondWalk}
-use Rattle.rules.specs.Verdict.{LARGEST, Counts, counts, fills, verdict}
+use Rattle.rules.specs.Verdict.{LARGEST, Counts, counts, WIDTH, room, fills, verdict}
 use Rattle.rules.specs.Demands.{Acceptable, AcceptedExactly, EnoughCells}
 use Rattle.varint.proofs.Passing.{pass-same, passed-bind, passed-seq, passed-rule}
 use Rattle.rules.proofs.Cells.{UnlessFull, unless-bind, second-unless-full, second-fits, second-passes}
@@ -39,15 +39,15 @@ module _ (model list : Bytes) (cells : ℕ) (c : Counts) where
         size-kept = nltb→le LARGEST (length model) (passed-rule 7 0 (ltb LARGEST (length model)) (a .0));
         wire-kept = d .0;
         rules-kept = (w .0, u .0, q);
-        names-fit = subst (λ (k : Counts). k .names ≤ cells) q (u .1);
+        names-fit = subst (λ (k : Counts). k .names ≤ room cells) q (u .1);
       }
 
   accepted : Acceptable model list cells c → verdict model list cells ≡ pass c
   unfolding verdict counts _>>=_ _>>_ refuse_at:_when:_
   accepted a =
       let w = a .rules-kept in
-      let room : w .0 .most ≤ cells = subst⁻¹ (λ (k : Counts). k .names ≤ cells) (w .2) (a .names-fit) in
-      let second = second-passes cells free (λ v l. refl) model list (w .0) (w .1) room in
+      let fit : w .0 .most ≤ room cells = subst⁻¹ (λ (k : Counts). k .names ≤ room cells) (w .2) (a .names-fit) in
+      let second = second-passes cells free (λ v l. refl) model list (w .0) (w .1) fit in
       rw (le-ltb LARGEST (length model) (a .size-kept), a .list-sound, a .wire-kept, second, verdict) (ap pass (w .2))
 
 pub acceptedExactly : AcceptedExactly
@@ -61,9 +61,9 @@ unfolding _>>_
 unless-seq (pass a) j u h = h
 unless-seq (fail r) j u h = inl refl
 
-fills-wider : (cells more : ℕ) → cells ≤ more → (visible : ℕ) → visible < cells → fills more visible ≡ false
-unfolding fills
-fills-wider cells more h visible l = lt-leb more visible (omega arith)
+fills-wider : (cells more : ℕ) → cells ≤ more → (visible : ℕ) → visible < room cells → fills more visible ≡ false
+unfolding fills room WIDTH
+fills-wider cells more h visible l = lt-leb (more / 2) visible (omega arith)
 
 pub enoughCells : EnoughCells
 unfolding EnoughCells verdict

@@ -9,7 +9,7 @@ use mathlib.Core.List.{List, [], _∷_}
 use mathlib.Core.Option.{Option, none, some}
 use lib.ListN.{length}
 use lib.Dec.{T, leb, leb→le, nleb→lt}
-use Rattle.varint.specs.Outcome.{pass, fail, _>>=_, _>>_, each, Judged, Rule, refused, refuse_at:_when:_}
+use Rattle.varint.specs.Outcome.{pass, fail, _>>=_, _>>_, each, Judged, Rule, refused, refuse_at:_when:_, refuse_at:_first:_when:_}
 use Rattle.varint.specs.declared.Refusal.{Refusal}
 use Rattle.wire.specs.declared.Field.{Field}
 use Rattle.varint.specs.Lists.{isEmpty}
@@ -18,12 +18,12 @@ use Rattle.wire.specs.Message.{allOf, firstOf, text, message, whole}
 use Rattle.schema.specs.Numbers.{Model·graph, Graph·node, Graph·name, Graph·initializer, Graph·input, Graph·output, ValueInfo·name}
 use Rattle.schema.specs.Numbers.{Tensor·name, Node·input, Node·output, Node·op-type, Node·attribute, Attribute·name}
 use Rattle.rules.specs.Names.{Name, nameIn, bodiesOf, inputsOf}
-use Rattle.rules.specs.Walk.{Context, nestedIn, inMain, Walk, start, withName, withNode, leaving, Along, along, visible, naming, define}
+use Rattle.rules.specs.Walk.{Context, nestedIn, inMain, Walk, start, withName, withNode, leaving, Along, along, visible, definedAt, naming, define}
 use Rattle.rules.specs.Types.{declaredType}
 use Rattle.rules.specs.Node.{nodeName, nodeInput, nodeOutput, body, attribute, node}
 use Rattle.rules.specs.Graph.{input, isDefault, defaultOrNew, initializer, output, graphWith, graph}
 use Rattle.rules.specs.Header.{header, secondWalkTo, secondWalk}
-use Rattle.rules.specs.Verdict.{fills}
+use Rattle.rules.specs.Verdict.{room, fills}
 use Rattle.varint.proofs.Passing.{fail-no-pass}
 
 -- the cells were full
@@ -42,19 +42,23 @@ pub unless-bind : {A B : Type 0} (j u : Judged A) (f : A → Judged B) → Unles
 unless-bind j u f (inl e) = inl (ap (λ (o : Judged _). o >>= f) e)
 unless-bind j u f (inr h) = inr (full-bind j f h)
 
-module _ (cells : ℕ) (room : ℕ → Bool) (wider : (visible : ℕ) → visible < cells → room visible ≡ false) where
+module _ (cells : ℕ) (ample : ℕ → Bool) (wider : (visible : ℕ) → visible < room cells → ample visible ≡ false) where
+  -- how many names fit
+  abbrev fit : ℕ
+  fit = room cells
+
   abbrev limit : ℕ → Bool
   limit = fills cells
 
   -- `n` names fit and the limited judge passes with the same value, or they do not and it finds the cells full
   abbrev Either : {A : Type 0} → ℕ → Judged A → A → Type 0
-  Either n j a = ((n ≤ cells) × (j ≡ pass a)) ⊎ ((cells < n) × Full j)
+  Either n j a = ((n ≤ fit) × (j ≡ pass a)) ⊎ ((fit < n) × Full j)
 
   -- The limited judge `j` beside the one with more room, from a state with at most `lo` names together; `m` reads that number off
   -- a state.
   abbrev Held : {A : Type 0} → (A → ℕ) → ℕ → Judged A → Judged A → Type 0
-  Held m lo j (pass a) = (lo ≤ m a) × (lo ≤ cells → Either (m a) j a)
-  Held m lo j (fail r) = lo ≤ cells → UnlessFull j (fail r)
+  Held m lo j (pass a) = (lo ≤ m a) × (lo ≤ fit → Either (m a) j a)
+  Held m lo j (fail r) = lo ≤ fit → UnlessFull j (fail r)
 
   held-pass : {A : Type 0} (m : A → ℕ) (a : A) → Held m (m a) (pass a) (pass a)
   held-pass m a = (omega arith, λ h. inl (h, refl))
@@ -102,16 +106,16 @@ module _ (cells : ℕ) (room : ℕ → Bool) (wider : (visible : ℕ) → visibl
   skip : {A B : Type 0} (k : B → ℕ) (lo : ℕ) (j : Judged A) (f g : A → Judged B) → ((a : A) → Held k lo (f a) (g a)) → Held k lo (j >>= f) (j >>= g)
   skip k lo j f g h = same-bind (λ _. 0) k lo j f g h
 
-  held-define : (w : Walk) (x : Name) → Held most (most w) (define limit w x) (define room w x)
-  unfolding define withName fills _>>_ refuse_at:_when:_
+  held-define : (w : Walk) (x : Name) → Held most (most w) (define limit w x) (define ample w x)
+  unfolding define withName fills _>>_ refuse_at:_when:_ refuse_at:_first:_when:_
   held-define w x =
       let n = length (w .scope) in
-      go (visible (x .bytes) (w .scope)) (leb cells n) (room n) (leb→le cells n) (λ t. let l = nleb→lt cells n t in (l, wider n l))
+      go (visible (x .bytes) (w .scope)) (leb fit n) (ample n) (leb→le fit n) (λ t. let l = nleb→lt fit n t in (l, wider n l))
     where
-      go : (a b c : Bool) → (T b → cells ≤ length (w .scope)) → (T (not b) → (length (w .scope) < cells) × (c ≡ false))
+      go : (a b c : Bool) → (T b → fit ≤ length (w .scope)) → (T (not b) → (length (w .scope) < fit) × (c ≡ false))
           → Held most (most w)
-          (refuse 23 at: x .place when: a >> (refuse 40 at: x .place when: b >> pass (withName w x)))
-          (refuse 23 at: x .place when: a >> (refuse 40 at: x .place when: c >> pass (withName w x)))
+          (refuse 23 at: x .place first: definedAt (x .bytes) (w .scope) when: a >> (refuse 40 at: x .place when: b >> pass (withName w x)))
+          (refuse 23 at: x .place first: definedAt (x .bytes) (w .scope) when: a >> (refuse 40 at: x .place when: c >> pass (withName w x)))
       go true b c yes′ no′ = λ l. inl refl
       go false true true yes′ no′ = λ l. inl refl
       go false true false yes′ no′ = let h = yes′ tt in (omega arith, λ l. inr (omega arith, (x .place, refl)))
@@ -119,37 +123,37 @@ module _ (cells : ℕ) (room : ℕ → Bool) (wider : (visible : ℕ) → visibl
       go false false false yes′ no′ = let h = no′ tt .0 in (omega arith, λ l. inl (omega arith, refl))
 
   module _ (model : Bytes) where
-    held-output : (w : Walk) (f : Field) → Held most (most w) (nodeOutput model limit w f) (nodeOutput model room w f)
+    held-output : (w : Walk) (f : Field) → Held most (most w) (nodeOutput model limit w f) (nodeOutput model ample w f)
     unfolding nodeOutput
     held-output w f = go (isEmpty (text model f)) (refuse 21 at: _ when: _)
       where
         go : (b : Bool) (rule : Rule) → Held most (most w)
             (elim b [ true ↦ pass w | false ↦ rule >> define limit w (nameIn model f) ])
-            (elim b [ true ↦ pass w | false ↦ rule >> define room w (nameIn model f) ])
+            (elim b [ true ↦ pass w | false ↦ rule >> define ample w (nameIn model f) ])
         go true rule = held-pass most w
-        go false rule = same-seq most (most w) rule (define limit w (nameIn model f)) (define room w (nameIn model f)) (held-define w (nameIn model f))
+        go false rule = same-seq most (most w) rule (define limit w (nameIn model f)) (define ample w (nameIn model f)) (held-define w (nameIn model f))
 
     module _ (c : Context) where
-      held-input : (w : Walk) (f : Field) → Held most (most w) (input model limit c w f) (input model room c w f)
+      held-input : (w : Walk) (f : Field) → Held most (most w) (input model limit c w f) (input model ample c w f)
       unfolding input
       held-input w f = skip most (most w) (naming model 22 ValueInfo·name (message model f)) _ _ (λ x.
-          held-bind most most (most w) (define limit w x) (define room w x) _ _ (held-define w x) (λ v.
+          held-bind most most (most w) (define limit w x) (define ample w x) _ _ (held-define w x) (λ v.
           same-seq most (most v) (inMain c (declaredType model (message model f))) (pass v) (pass v) (held-pass most v)))
 
-      held-default : (inputs : List Bytes) (w : Along) (x : Name) → Held most (mostOf w) (defaultOrNew limit c inputs w x) (defaultOrNew room c inputs w x)
+      held-default : (inputs : List Bytes) (w : Along) (x : Name) → Held most (mostOf w) (defaultOrNew limit c inputs w x) (defaultOrNew ample c inputs w x)
       unfolding defaultOrNew
       held-default inputs w x = go (isDefault c inputs (w .earlier) (x .bytes))
         where
           go : (b : Bool)
               → Held most (mostOf w) (elim b [ true ↦ pass (w .walk) | false ↦ define limit (w .walk) x ])
-              (elim b [ true ↦ pass (w .walk) | false ↦ define room (w .walk) x ])
+              (elim b [ true ↦ pass (w .walk) | false ↦ define ample (w .walk) x ])
           go true = held-pass most (w .walk)
           go false = held-define (w .walk) x
 
-      held-initializer : (inputs : List Bytes) (w : Along) (f : Field) → Held mostOf (mostOf w) (initializer model limit c inputs w f) (initializer model room c inputs w f)
+      held-initializer : (inputs : List Bytes) (w : Along) (f : Field) → Held mostOf (mostOf w) (initializer model limit c inputs w f) (initializer model ample c inputs w f)
       unfolding initializer
       held-initializer inputs w f = skip mostOf (mostOf w) (naming model 22 Tensor·name (message model f)) _ _ (λ x.
-          held-bind most mostOf (mostOf w) (defaultOrNew limit c inputs w x) (defaultOrNew room c inputs w x) _ _ (held-default inputs w x) (λ v.
+          held-bind most mostOf (mostOf w) (defaultOrNew limit c inputs w x) (defaultOrNew ample c inputs w x) _ _ (held-default inputs w x) (λ v.
           same-seq mostOf (most v) (refuse 26 at: _ when: _) _ _ (held-pass mostOf (record { walk = v; earlier = x .bytes ∷ w .earlier }))))
 
       module _ (J K : Walk → Field → Judged Walk) (nest : (w : Walk) (f : Field) → Held most (most w) (J w f) (K w f)) where
@@ -166,7 +170,7 @@ module _ (cells : ℕ) (room : ℕ → Bool) (wider : (visible : ℕ) → visibl
             (held-each most (body J) (body K) held-body (w .walk) (bodiesOf (message model f)))
             (λ v. held-pass mostOf (record { walk = v; earlier = x .bytes ∷ w .earlier }))))))
 
-        held-node : (w : Along) (f : Field) → Held mostOf (mostOf w) (node model limit c J w f) (node model room c K w f)
+        held-node : (w : Along) (f : Field) → Held mostOf (mostOf w) (node model limit c J w f) (node model ample c K w f)
         unfolding node withNode along
         held-node w f =
             let m = message model f in
@@ -178,33 +182,33 @@ module _ (cells : ℕ) (room : ℕ → Bool) (wider : (visible : ℕ) → visibl
             (each (attribute model K) (along (w .walk)) (allOf Node·attribute m)) _ _
             (held-each mostOf (attribute model J) (attribute model K) held-attribute (along (w .walk)) (allOf Node·attribute m))
             (λ v. same-seq mostOf (mostOf v) (refuse 34 at: _ when: _) _ _
-            (held-bind most mostOf (mostOf v) (each (nodeOutput model limit) (v .walk) (allOf Node·output m)) (each (nodeOutput model room) (v .walk) (allOf Node·output m)) _ _
-            (held-each most (nodeOutput model limit) (nodeOutput model room) held-output (v .walk) (allOf Node·output m))
+            (held-bind most mostOf (mostOf v) (each (nodeOutput model limit) (v .walk) (allOf Node·output m)) (each (nodeOutput model ample) (v .walk) (allOf Node·output m)) _ _
+            (held-each most (nodeOutput model limit) (nodeOutput model ample) held-output (v .walk) (allOf Node·output m))
             (λ u. held-pass mostOf (record { walk = withNode u; earlier = names }))))))))
 
-        held-graph : (w : Walk) (f : Field) → Held most (most w) (graphWith model limit c J w f) (graphWith model room c K w f)
+        held-graph : (w : Walk) (f : Field) → Held most (most w) (graphWith model limit c J w f) (graphWith model ample c K w f)
         unfolding graphWith along
         held-graph w f =
             let g = message model f in
             skip most (most w) (naming model 20 Graph·name g) _ _ (λ x.
             same-seq most (most w) (refuse 16 at: _ when: _) _ _
-            (held-bind most most (most w) (each (input model limit c) w (allOf Graph·input g)) (each (input model room c) w (allOf Graph·input g)) _ _
-            (held-each most (input model limit c) (input model room c) held-input w (allOf Graph·input g))
+            (held-bind most most (most w) (each (input model limit c) w (allOf Graph·input g)) (each (input model ample c) w (allOf Graph·input g)) _ _
+            (held-each most (input model limit c) (input model ample c) held-input w (allOf Graph·input g))
             (λ v. held-bind mostOf most (most v) (each (initializer model limit c (inputsOf model g)) (along v) (allOf Graph·initializer g))
-            (each (initializer model room c (inputsOf model g)) (along v) (allOf Graph·initializer g)) _ _
-            (held-each mostOf (initializer model limit c (inputsOf model g)) (initializer model room c (inputsOf model g))
+            (each (initializer model ample c (inputsOf model g)) (along v) (allOf Graph·initializer g)) _ _
+            (held-each mostOf (initializer model limit c (inputsOf model g)) (initializer model ample c (inputsOf model g))
             (held-initializer (inputsOf model g)) (along v) (allOf Graph·initializer g))
             (λ i. held-bind mostOf most (mostOf i) (each (node model limit c J) (along (i .walk)) (allOf Graph·node g))
-            (each (node model room c K) (along (i .walk)) (allOf Graph·node g)) _ _
-            (held-each mostOf (node model limit c J) (node model room c K) held-node (along (i .walk)) (allOf Graph·node g))
+            (each (node model ample c K) (along (i .walk)) (allOf Graph·node g)) _ _
+            (held-each mostOf (node model limit c J) (node model ample c K) held-node (along (i .walk)) (allOf Graph·node g))
             (λ n. same-seq most (mostOf n) (each (output model c (n .walk .scope)) tt (allOf Graph·output g)) (pass (n .walk)) (pass (n .walk)) (held-pass most (n .walk)))))))
 
-    held-depths : (left : ℕ) (c : Context) (w : Walk) (f : Field) → Held most (most w) (graph model limit left c w f) (graph model room left c w f)
+    held-depths : (left : ℕ) (c : Context) (w : Walk) (f : Field) → Held most (most w) (graph model limit left c w f) (graph model ample left c w f)
     unfolding graph
     held-depths zero c w f = λ l. inl refl
-    held-depths (suc left) c w f = held-graph c (graph model limit left (nestedIn c)) (graph model room left (nestedIn c)) (λ w f. held-depths left (nestedIn c) w f) w f
+    held-depths (suc left) c w f = held-graph c (graph model limit left (nestedIn c)) (graph model ample left (nestedIn c)) (λ w f. held-depths left (nestedIn c) w f) w f
 
-    held-second : (list : Bytes) → Held most 0 (secondWalk model list limit) (secondWalk model list room)
+    held-second : (list : Bytes) → Held most 0 (secondWalk model list limit) (secondWalk model list ample)
     unfolding secondWalk secondWalkTo start
     held-second list =
         skip most 0 (header model list (message model (whole model))) _ _
@@ -212,7 +216,7 @@ module _ (cells : ℕ) (room : ℕ → Bool) (wider : (visible : ℕ) → visibl
       where
         go : (c : Context) (o : Option Field) → Held most 0
             (elim o [ none ↦ refused 11 (message model (whole model) .place) | some g ↦ graph model limit 8 c start g ])
-            (elim o [ none ↦ refused 11 (message model (whole model) .place) | some g ↦ graph model room 8 c start g ])
+            (elim o [ none ↦ refused 11 (message model (whole model) .place) | some g ↦ graph model ample 8 c start g ])
         go c none = λ l. inl refl
         go c (some g) = held-depths 8 c start g
 
@@ -226,15 +230,15 @@ module _ (cells : ℕ) (room : ℕ → Bool) (wider : (visible : ℕ) → visibl
   no-pass j r w (inl f) e = fail-no-pass r w (sym f ∙ e)
   no-pass j r w (inr f) e = fail-no-pass _ w (sym (f .1) ∙ e)
 
-  fits : (j u : Judged Walk) → Held most 0 j u → (w : Walk) → j ≡ pass w → (u ≡ pass w) × (w .most ≤ cells)
+  fits : (j u : Judged Walk) → Held most 0 j u → (w : Walk) → j ≡ pass w → (u ≡ pass w) × (w .most ≤ fit)
   fits j (fail r) h w e = absurd (no-pass j r w (h zero-le) e)
   fits j (pass a) h w e = go (h .1 zero-le)
     where
-      go : Either (a .most) j a → (_≡_ {A = Judged Walk} (pass a) (pass w)) × (w .most ≤ cells)
+      go : Either (a .most) j a → (_≡_ {A = Judged Walk} (pass a) (pass w)) × (w .most ≤ fit)
       go (inl f) = let q = f .1 in let same : a ≡ w = cc in (ap pass same, rw same at (f .0))
       go (inr f) = absurd (fail-no-pass _ w (sym (f .1 .1) ∙ e))
 
-  passes : (j u : Judged Walk) → Held most 0 j u → (w : Walk) → u ≡ pass w → w .most ≤ cells → j ≡ pass w
+  passes : (j u : Judged Walk) → Held most 0 j u → (w : Walk) → u ≡ pass w → w .most ≤ fit → j ≡ pass w
   passes j u h w e l = go (rw e at h .1 zero-le)
     where
       go : Either (w .most) j w → j ≡ pass w
@@ -242,11 +246,11 @@ module _ (cells : ℕ) (room : ℕ → Bool) (wider : (visible : ℕ) → visibl
       go (inr f) = let q = f .0 in absurd (omega arith)
 
   module _ (model list : Bytes) where
-    pub second-unless-full : UnlessFull (secondWalk model list limit) (secondWalk model list room)
+    pub second-unless-full : UnlessFull (secondWalk model list limit) (secondWalk model list ample)
     second-unless-full = unless-full _ _ (held-second model list)
 
-    pub second-fits : (w : Walk) → secondWalk model list limit ≡ pass w → (secondWalk model list room ≡ pass w) × (w .most ≤ cells)
+    pub second-fits : (w : Walk) → secondWalk model list limit ≡ pass w → (secondWalk model list ample ≡ pass w) × (w .most ≤ fit)
     second-fits = fits _ _ (held-second model list)
 
-    pub second-passes : (w : Walk) → secondWalk model list room ≡ pass w → w .most ≤ cells → secondWalk model list limit ≡ pass w
+    pub second-passes : (w : Walk) → secondWalk model list ample ≡ pass w → w .most ≤ fit → secondWalk model list limit ≡ pass w
     second-passes = passes _ _ (held-second model list)

@@ -7,7 +7,7 @@ use mathlib.Core.Bool.{Bool, true}
 use mathlib.Core.List.{List, [], _∷_, _++_, flatMap}
 use mathlib.Core.Option.{Option, none, some}
 use lib.ListN.{length, length-append}
-use Rattle.varint.specs.Outcome.{pass, _>>=_, _>>_, each, Judged, Rule, refused, refuse_at:_when:_}
+use Rattle.varint.specs.Outcome.{pass, _>>=_, _>>_, each, Judged, Rule, refused, refuse_at:_when:_, refuse_at:_first:_when:_}
 use Rattle.wire.specs.declared.Field.{Field}
 use Rattle.varint.specs.Lists.{isEmpty}
 use Rattle.varint.specs.Bytes.{Bytes}
@@ -53,7 +53,7 @@ nodesOf w = w .walk .nodes
 
 stays-define : (full : ℕ → Bool) (n : ℕ) (w : Walk) (x : Name) → Stays n w → Tells (Stays n) Any (define full w x)
 unfolding define withName
-stays-define full n w x e = past (Stays n) (refuse 23 at: _ when: _) _ (past (Stays n) (refuse 40 at: _ when: _) _ e)
+stays-define full n w x e = past (Stays n) (refuse 23 at: _ first: _ when: _) _ (past (Stays n) (refuse 40 at: _ when: _) _ e)
 
 module _ (model : Bytes) (full : ℕ → Bool) where
   pub stays-output : (n : ℕ) (w : Walk) (f : Field) → Stays n w → Tells (Stays n) Any (nodeOutput model full w f)

@@ -106,7 +106,7 @@ module _ (model list : Bytes) (cells : ℕ) where
     agrees = λ c e choices₁ choices₂ r₁ r₂ e₁ e₂ x₁ x₂ m₁ m₂ q.
         let r₀ = plain c e in
         functional model (r₀ .0) (r₀ .1) x₁ x₂ (among-plain choices₁ (r₀ .0) r₁ (r₀ .1) e₁ x₁ m₁) (among-plain choices₂ (r₀ .0) r₂ (r₀ .1) e₂ x₂ m₂) q;
-    stops-binding = λ p e. rw e at (verdict-matches model list cells);
+    stops-binding = λ p first e. rw e at (verdict-matches model list cells);
     stops-reading = λ p e. rw e at (verdict-matches model list cells);
     stops-output = λ p e. rw e at (verdict-matches model list cells);
   }

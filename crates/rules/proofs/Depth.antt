@@ -41,7 +41,7 @@ module _ (model : Bytes) where
       (walked-opens model kind depth (f .next) (f .start) w)
     where
       opened-as : (g : Field) → Opens model kind depth g → kindOf (rowOf kind (g .number)) ≡ some k → Sound model depth g k
-      opened-as g o q = rw q at o
+      opened-as g o q = rw q at (o .1)
 
   nodes-sound : (depth : ℕ) (f : Field) → walked model Graph depth [] (f .next) (f .start) ≡ pass tt → All (λ n. Sound model depth n Node) (allOf Graph·node (message model f))
   unfolding allOf Rows·computes kindOf

@@ -25,13 +25,13 @@ use Rattle.rules.proofs.Size.{largest-some, size-short}
 
 -- ---- places
 
-places : (model list : Bytes) (cells : ℕ) (r : Refusal) (b : Bool) → ltb LARGEST (length model) ≡ b → verdict model list cells ≡ fail r → r .place < 2 ^ 31
+places : (model list : Bytes) (cells : ℕ) (r : Refusal) (b : Bool) → ltb LARGEST (length model) ≡ b → verdict model list cells ≡ fail r → (r .place < 2 ^ 31) × (r .first < 2 ^ 31)
 unfolding verdict RefusedProperly _>>_ refuse_at:_when:_
-places model list cells r true k e = let f = fail-same _ r (rw (k, verdict) at e) in rw (← f) (omega arith)
-places model list cells r false k e = let s = size-short model k in elim (refusedProperly model list cells r e .1) [
-  | inl p ↦ omega arith
-  | inr p ↦ omega arith
-]
+places model list cells r true k e = let f = fail-same _ r (rw (k, verdict) at e) in rw (← f) (omega arith, omega arith)
+places model list cells r false k e =
+    let s = size-short model k in
+    let proper = refusedProperly model list cells r e in
+    (elim (proper .1) [ inl p ↦ omega arith | inr p ↦ omega arith ], elim (proper .2) [ inl p ↦ omega arith | inr p ↦ (let l = p .1 in omega arith) ])
 
 pub placesShort : PlacesShort
 unfolding PlacesShort

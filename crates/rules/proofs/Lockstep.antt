@@ -6,7 +6,7 @@ use mathlib.Core.List.{List, [], _∷_}
 use mathlib.Core.Option.{Option, none, some}
 use native.Mathlib.Nat.{add-suc}
 use lib.ListN.{length}
-use Rattle.varint.specs.Outcome.{Outcome, pass, fail, _>>=_, _>>_, each, Judged, Rule, refuse_at:_when:_}
+use Rattle.varint.specs.Outcome.{Outcome, pass, fail, _>>=_, _>>_, each, Judged, Rule, refuse_at:_when:_, refuse_at:_first:_when:_}
 use Rattle.wire.specs.declared.Field.{Field}
 use Rattle.varint.specs.Lists.{isEmpty, present, contains, keep}
 use Rattle.varint.specs.Bytes.{Bytes, same, member}
@@ -16,7 +16,7 @@ use Rattle.schema.specs.Numbers.{Graph·name, Graph·node, Graph·initializer, 
 use Rattle.schema.specs.Numbers.{Node·op-type, Node·attribute, Attribute·name, Tensor·name, Tensor·data-type, ValueInfo·name}
 use Rattle.rules.specs.Identifier.{identifier}
 use Rattle.rules.specs.Names.{Name, nameOf, nameIn, bodiesOf, inputsOf, bodiesIn}
-use Rattle.rules.specs.Walk.{Context, nestedIn, inMain, Walk, withName, withNode, leaving, Along, along, visible, naming, define}
+use Rattle.rules.specs.Walk.{Context, nestedIn, inMain, Walk, withName, withNode, leaving, Along, along, visible, definedAt, naming, define}
 use Rattle.rules.specs.Types.{isElement, declaredType}
 use Rattle.rules.specs.Node.{nodeName, nodeInput, nodeOutput, body, attribute, node}
 use Rattle.rules.specs.Graph.{input, isDefault, defaultOrNew, initializer, output, graphWith, graph}
@@ -44,13 +44,24 @@ visible-found x (n ∷ l) = go (same x (n .bytes)) (visible-found x l)
     go true e = refl
     go false e = e
 
+-- the place of the definition already visible is the defining place
+defined-found : (x : Bytes) (l : List Name) (p : ℕ) → find x l ≡ some p → definedAt x l ≡ p
+unfolding find definedAt present
+defined-found x [] p e = absurd (true≢false (sym (ap present e)))
+defined-found x (n ∷ l) p e = go (same x (n .bytes)) e (defined-found x l p)
+  where
+    go : (b : Bool) → _≡_ {A = Option ℕ} (elim b [ true ↦ some (n .place) | false ↦ find x l ]) (some p) → (find x l ≡ some p → definedAt x l ≡ p)
+        → elim b [ true ↦ n .place | false ↦ definedAt x l ] ≡ p
+    go true e ih = cc
+    go false e ih = ih e
+
 -- ---- names
 
 found-in-step : (w : Walk) (x : Name) (r : Run) (o : Option ℕ) → InStep w r → find (x .bytes) (r .bound) ≡ o → visible (x .bytes) (w .scope) ≡ present o
 found-in-step w x r o h e = visible-found (x .bytes) (w .scope) ∙ ap (λ (l : List Name). present (find (x .bytes) l)) (h .0) ∙ ap present e
 
 define-matches : (full : ℕ → Bool) (w : Walk) (x : Name) (r : Run) → InStep w r → Matches InStep (define full w x) (bind r x)
-unfolding define bind withName withBound present _>>_ refuse_at:_when:_
+unfolding define bind withName withBound present _>>_ refuse_at:_when:_ refuse_at:_first:_when:_
 define-matches full w x r h = go (find (x .bytes) (r .bound)) refl
   where
     go : (o : Option ℕ) → find (x .bytes) (r .bound) ≡ o → Matches InStep (define full w x) (bind r x)
@@ -58,10 +69,12 @@ define-matches full w x r h = go (find (x .bytes) (r .bound)) refl
         (quiet-then InStep (refuse 40 at: x .place when: full (length (w .scope))) (pass (withName w x)) (pass (withBound r x))
         (quiet-rule 40 (x .place) (full (length (w .scope))) refl)
         (withBound r x, refl, (ap (λ (l : List Name). x ∷ l) (h .0), h .1, ap₂ (λ (n : ℕ) (l : List Name). max n (length l + 1)) (h .2) (h .0))))
-    go (some p) e = rw (found-in-step w x r (some p) h e, e, define, bind) refl
+    go (some p) e =
+        let first : definedAt (x .bytes) (w .scope) ≡ p = defined-found (x .bytes) (w .scope) p (ap (find (x .bytes)) (h .0) ∙ e) in
+        rw (found-in-step w x r (some p) h e, first, e, define, bind) refl
 
 -- a rule that tests whether a name is visible, with a number that is tied to a read
-read-matches : (n : ℕ) (w : Walk) (x : Name) (r : Run) → ((p : ℕ) → stopOf (record { number = n; place = p }) ≡ some (reading p)) → InStep w r
+read-matches : (n : ℕ) (w : Walk) (x : Name) (r : Run) → ((p : ℕ) → stopOf (record { number = n; place = p; first = 0 }) ≡ some (reading p)) → InStep w r
     → Matches (λ _ s. InStep w s) (refuse n at: x .place when: not (visible (x .bytes) (w .scope))) (read r x)
 unfolding read withRead present refuse_at:_when:_
 read-matches n w x r q h = go (find (x .bytes) (r .bound)) refl
@@ -72,7 +85,7 @@ read-matches n w x r q h = go (find (x .bytes) (r .bound)) refl
 
 module _ (model : Bytes) where
   naming-matches : {C D : Type 0} (S : C → D → Type 0) (empty k : ℕ) (m : Message) (f : Name → Judged C) (o : Outcome _ D)
-      → ((p : ℕ) → stopOf (record { number = empty; place = p }) ≡ none) → Matches S (f (nameOf model k m)) o
+      → ((p : ℕ) → stopOf (record { number = empty; place = p; first = 0 }) ≡ none) → Matches S (f (nameOf model k m)) o
       → Matches S (naming model empty k m >>= f) o
   unfolding naming _>>=_ _>>_ refuse_at:_when:_
   naming-matches S empty k m f o q h = go (isEmpty (bytesOf model k m)) (not (identifier (bytesOf model k m)))

@@ -15,7 +15,7 @@ use Rattle.rules.specs.Runner.{Stop, binding, reading}
 -- "The refusals that demand 3 ties to a stop are 23, on a binding, and 30 and 35, on a read, and no others."
 abbrev pub stopOf : Refusal → Option Stop
 stopOf r = elim (eqb (r .number) 23) [
-  | true ↦ some (binding (r .place))
+  | true ↦ some (binding (r .place) (r .first))
   | false ↦ elim (eqb (r .number) 30 || eqb (r .number) 35) [ true ↦ some (reading (r .place)) | false ↦ none ]
 ]
 
@@ -39,19 +39,19 @@ Untied ns = T (not (contains 23 ns)) × T (not (contains 30 ns)) × T (not (cont
 not-one-of : (n k : ℕ) (ns : List ℕ) → T (not (contains k ns)) → T (contains n ns) → T (not (eqb n k))
 not-one-of n k ns h t = not-T (eqb n k) (λ e. T-not (contains n ns) (rw (← (eqb→eq n k e)) at h) t)
 
-silent : (p : ℕ) (a b c : Bool) → T (not a) → T (not b) → T (not c)
-    → _≡_ {A = Option Stop} (elim a [ true ↦ some (binding p) | false ↦ elim (b || c) [ true ↦ some (reading p) | false ↦ none ] ]) none
-silent p true b c h i j = absurd h
-silent p false true c h i j = absurd i
-silent p false false true h i j = absurd j
-silent p false false false h i j = refl
+silent : (p q : ℕ) (a b c : Bool) → T (not a) → T (not b) → T (not c)
+    → _≡_ {A = Option Stop} (elim a [ true ↦ some (binding p q) | false ↦ elim (b || c) [ true ↦ some (reading p) | false ↦ none ] ]) none
+silent p q true b c h i j = absurd h
+silent p q false true c h i j = absurd i
+silent p q false false true h i j = absurd j
+silent p q false false false h i j = refl
 
 pub quiet-among : {A : Type 0} (R : A → Type 0) (Q : ℕ → Type 0) (ns : List ℕ) (j : Judged A) → Untied ns → Tells R (Among ns Q) j → Quiet j
 quiet-among R Q ns j u t = tells-weaken R Any (Among ns Q) (λ r. stopOf r ≡ none) j (λ a h. tt) (λ r h.
-    silent (r .place) (eqb (r .number) 23) (eqb (r .number) 30) (eqb (r .number) 35) (not-one-of (r .number) 23 ns (u .0) (h .0))
+    silent (r .place) (r .first) (eqb (r .number) 23) (eqb (r .number) 30) (eqb (r .number) 35) (not-one-of (r .number) 23 ns (u .0) (h .0))
     (not-one-of (r .number) 30 ns (u .1) (h .0)) (not-one-of (r .number) 35 ns (u .2) (h .0))) t
 
-pub quiet-rule : (n p : ℕ) (b : Bool) → stopOf (record { number = n; place = p }) ≡ none → Quiet (refuse n at: p when: b)
+pub quiet-rule : (n p : ℕ) (b : Bool) → stopOf (record { number = n; place = p; first = 0 }) ≡ none → Quiet (refuse n at: p when: b)
 quiet-rule n p b h = tells-last (λ r. stopOf r ≡ none) n p b (λ t. h)
 
 -- ---- one after the other

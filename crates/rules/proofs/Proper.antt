@@ -1,20 +1,20 @@
--- Every refusal has a number of document 01's table, and place 0 or one inside the model.
+-- Every refusal has a number of document 01's table, and place 0 or one inside the model; a second number is the place of a visible name.
 use Prim.Native.Nat.{ℕ, zero, suc, _<_, zero-le}
 use native.Mathlib.Omega.{arith}
 use mathlib.Core.Path.{_≡_, refl}
 use mathlib.Core.Logic.{_⊎_, inl, inr}
-use mathlib.Core.Bool.{Bool, true}
+use mathlib.Core.Bool.{Bool, true, false}
 use mathlib.Core.List.{List, [], _∷_}
 use lib.ListN.{length}
 use lib.Dec.{T}
-use Rattle.varint.specs.Outcome.{each}
+use Rattle.varint.specs.Outcome.{each, Judged}
 use Rattle.varint.specs.declared.Refusal.{Refusal}
 use Rattle.wire.specs.declared.Field.{Field}
 use Rattle.varint.specs.Lists.{isEmpty, contains}
-use Rattle.varint.specs.Bytes.{Bytes}
+use Rattle.varint.specs.Bytes.{Bytes, same}
 use Rattle.wire.specs.Message.{Message, allOf, firstOf, text, message, whole}
 use Rattle.varint.proofs.Lists.{All, all-map, subset}
-use Rattle.varint.proofs.Tells.{Tells, Any, Among, tells-bind, tells-weaken, tells-seq, tells-if, tells-option, tells-rule, tells-last, tells-each}
+use Rattle.varint.proofs.Tells.{Tells, Any, Among, tells-bind, tells-weaken, tells-seq, tells-if, tells-option, tells-rule, tells-first, tells-last, tells-each}
 use Rattle.wire.proofs.Reading.{Fits}
 use Rattle.wire.proofs.Fields.{message-ordered, ordered-all}
 use Rattle.schema.specs.Numbers.{Model·graph, Graph·node, Graph·name, Graph·initializer, Graph·input, Graph·output}
@@ -23,7 +23,7 @@ use Rattle.schema.specs.Numbers.{Node·input, Node·output, Node·op-type, Node
 use Rattle.schema.specs.FirstWalk.{firstWalk}
 use Rattle.schema.proofs.Refusals.{FirstWalk·refusals, firstWalk-tells}
 use Rattle.rules.specs.Names.{Name, nameOf, nameIn, bodiesOf, inputsOf}
-use Rattle.rules.specs.Walk.{Context, nestedIn, inMain, Walk, GraphJudge, start, Along, along, naming, define}
+use Rattle.rules.specs.Walk.{Context, nestedIn, inMain, Walk, GraphJudge, start, withName, withNode, leaving, Along, along, definedAt, naming, define}
 use Rattle.rules.specs.Types.{declaredType}
 use Rattle.rules.specs.Node.{nodeName, nodeInput, nodeOutput, body, attribute, node}
 use Rattle.rules.specs.Graph.{input, isDefault, defaultOrNew, initializer, output, graphWith, graph}
@@ -42,8 +42,38 @@ module _ (model : Bytes) where
   Place p = (p ≡ 0) ⊎ (p < length model)
 
   -- a proper refusal
+  abbrev Second : (number first : ℕ) → Type 0
+  Second number first = (first ≡ 0) ⊎ ((number ≡ 23) × (first < length model))
+
   abbrev Proper : Refusal → Type 0
-  Proper = Among refusals Place
+  Proper r = T (contains (r .number) refusals) × Place (r .place) × Second (r .number) (r .first)
+
+  of-place : (q : ℕ) → Place q → Second 23 q
+  of-place q (inl e) = inl e
+  of-place q (inr h) = inr (refl, h)
+
+  -- rules that have no second number
+  proper-among : {A : Type 0} (R : A → Type 0) (ns : List ℕ) (o : Judged A) → T (subset ns refusals) → Tells R (Among ns Place) o → Tells R Proper o
+  proper-among R ns o s t = tells-weaken R R (Among refusals Place) Proper o (λ a h. h) (λ r h. (h .0, h .1, inl (h .2))) (more-numbers R Place ns refusals o s t)
+
+  -- what is visible stands at good places
+  abbrev Names : List Name → Type 0
+  Names scope = All (λ n. Place (n .place)) scope
+
+  abbrev Scoped : Walk → Type 0
+  Scoped w = Names (w .scope)
+
+  abbrev ScopedAlong : Along → Type 0
+  ScopedAlong w = Scoped (w .walk)
+
+  defined-place : (x : Bytes) (scope : List Name) → Names scope → Place (definedAt x scope)
+  unfolding definedAt
+  defined-place x [] s = inl refl
+  defined-place x (n ∷ more) s = go (same x (n .bytes)) (defined-place x more (s .1))
+    where
+      go : (b : Bool) → Place (definedAt x more) → Place (elim b [ true ↦ n .place | false ↦ definedAt x more ])
+      go true p = s .0
+      go false p = p
 
   good-at : (f : Field) → Good f → Place (f .place)
   good-at f g = inr (omega arith)
@@ -69,114 +99,118 @@ module _ (model : Bytes) where
   proper-naming : (empty n : ℕ) (m : Message) → T (subset (empty ∷ 21 ∷ []) refusals) → Placed m → Tells (λ x. Place (x .place)) Proper (naming model empty n m)
   unfolding nameOf
   proper-naming empty n m s g = tells-weaken (λ x. x ≡ nameOf model n m) (λ x. Place (x .place)) Proper Proper (naming model empty n m) (λ x e. rw e (place n m g)) (λ r p. p)
-      (more-numbers _ Place (empty ∷ 21 ∷ []) refusals (naming model empty n m) s (naming-tells model Good Place good-at good-in empty n m g))
+      (proper-among _ (empty ∷ 21 ∷ []) (naming model empty n m) s (naming-tells model Good Place good-at good-in empty n m g))
 
   proper-type : (c : Context) (v : Message) → Placed v → Tells Any Proper (inMain c (declaredType model v))
   unfolding subset contains
-  proper-type c v g = more-numbers Any Place Type·refusals refusals (inMain c (declaredType model v)) tt (main-type-tells model Good Place good-at good-in c v g)
+  proper-type c v g = proper-among Any Type·refusals (inMain c (declaredType model v)) tt (main-type-tells model Good Place good-at good-in c v g)
 
   module _ (full : ℕ → Bool) where
-    proper-define : (w : Walk) (x : Name) → Place (x .place) → Tells Any Proper (define full w x)
-    unfolding define contains
-    proper-define w x p = tells-rule Any Proper 23 _ _ _ (λ b. (tt, p)) (λ b. tells-rule Any Proper 40 _ _ _ (λ b. (tt, p)) (λ b. tt))
+    proper-define : (w : Walk) (x : Name) → Scoped w → Place (x .place) → Tells Scoped Proper (define full w x)
+    unfolding define withName contains
+    proper-define w x s p =
+        tells-first Scoped Proper 23 _ _ _ _ (λ b. (tt, p, of-place _ (defined-place (x .bytes) (w .scope) s)))
+        (λ b. tells-rule Scoped Proper 40 _ _ _ (λ b. (tt, p, inl refl)) (λ b. (p, s)))
 
-    proper-input : (c : Context) (w : Walk) (f : Field) → Good f → Tells Any Proper (input model full c w f)
+    proper-input : (c : Context) (w : Walk) (f : Field) → Scoped w → Good f → Tells Scoped Proper (input model full c w f)
     unfolding input subset contains
-    proper-input c w f g =
-        tells-bind (λ x. Place (x .place)) Any Proper _ _ (proper-naming 22 ValueInfo·name (message model f) tt (placed f g)) (λ x p.
-        tells-bind Any Any Proper _ _ (proper-define w x p)
-        (λ v _. tells-seq Any Proper (inMain c (declaredType model (message model f))) _ (proper-type c (message model f) (placed f g)) tt))
+    proper-input c w f s g =
+        tells-bind (λ x. Place (x .place)) Scoped Proper _ _ (proper-naming 22 ValueInfo·name (message model f) tt (placed f g)) (λ x p.
+        tells-bind Scoped Scoped Proper _ _ (proper-define w x s p)
+        (λ v t. tells-seq Scoped Proper (inMain c (declaredType model (message model f))) _ (proper-type c (message model f) (placed f g)) t))
 
-    proper-initializer : (c : Context) (inputs : List Bytes) (w : Along) (f : Field) → Good f → Tells Any Proper (initializer model full c inputs w f)
+    proper-initializer : (c : Context) (inputs : List Bytes) (w : Along) (f : Field) → ScopedAlong w → Good f → Tells ScopedAlong Proper (initializer model full c inputs w f)
     unfolding initializer defaultOrNew subset contains
-    proper-initializer c inputs w f g =
-        tells-bind (λ x. Place (x .place)) Any Proper _ _ (proper-naming 22 Tensor·name (message model f) tt (placed f g)) (λ x p.
-        tells-bind Any Any Proper _ _ (tells-if Any Proper (isDefault c inputs (w .earlier) (x .bytes)) _ _ (λ b. tt) (λ b. proper-define (w .walk) x p)) (λ v _.
-        tells-rule Any Proper 26 _ _ _ (λ b. (tt, place Tensor·data-type (message model f) (placed f g))) (λ b. tt)))
+    proper-initializer c inputs w f s g =
+        tells-bind (λ x. Place (x .place)) ScopedAlong Proper _ _ (proper-naming 22 Tensor·name (message model f) tt (placed f g)) (λ x p.
+        tells-bind Scoped ScopedAlong Proper _ _
+        (tells-if Scoped Proper (isDefault c inputs (w .earlier) (x .bytes)) _ _ (λ b. s) (λ b. proper-define (w .walk) x s p)) (λ v t.
+        tells-rule ScopedAlong Proper 26 _ _ _ (λ b. (tt, place Tensor·data-type (message model f) (placed f g), inl refl)) (λ b. t)))
 
     proper-node-input : (scope : List Name) (u : Unit {0}) (f : Field) → Good f → Tells Any Proper (nodeInput model scope u f)
     unfolding nodeInput contains
     proper-node-input scope u f g =
         tells-if Any Proper (isEmpty (text model f)) _ _ (λ b. tt)
-        (λ b. tells-rule Any Proper 21 _ _ _ (λ b. (tt, good-at f g)) (λ b. tells-last Proper 30 _ _ (λ b. (tt, good-at f g))))
+        (λ b. tells-rule Any Proper 21 _ _ _ (λ b. (tt, good-at f g, inl refl)) (λ b. tells-last Proper 30 _ _ (λ b. (tt, good-at f g, inl refl))))
 
-    proper-node-output : (w : Walk) (f : Field) → Good f → Tells Any Proper (nodeOutput model full w f)
+    proper-node-output : (w : Walk) (f : Field) → Scoped w → Good f → Tells Scoped Proper (nodeOutput model full w f)
     unfolding nodeOutput nameIn contains
-    proper-node-output w f g =
-        tells-if Any Proper (isEmpty (text model f)) _ _ (λ b. tt)
-        (λ b. tells-rule Any Proper 21 _ _ _ (λ b. (tt, good-at f g)) (λ b. proper-define w (nameIn model f) (good-at f g)))
+    proper-node-output w f s g =
+        tells-if Scoped Proper (isEmpty (text model f)) _ _ (λ b. s)
+        (λ b. tells-rule Scoped Proper 21 _ _ _ (λ b. (tt, good-at f g, inl refl)) (λ b. proper-define w (nameIn model f) s (good-at f g)))
 
     proper-output : (c : Context) (scope : List Name) (u : Unit {0}) (f : Field) → Good f → Tells Any Proper (output model c scope u f)
     unfolding output subset contains
     proper-output c scope u f g =
         tells-bind (λ x. Place (x .place)) Any Proper _ _ (proper-naming 22 ValueInfo·name (message model f) tt (placed f g)) (λ x p.
-        tells-rule Any Proper 35 _ _ _ (λ b. (tt, p)) (λ b. proper-type c (message model f) (placed f g)))
+        tells-rule Any Proper 35 _ _ _ (λ b. (tt, p, inl refl)) (λ b. proper-type c (message model f) (placed f g)))
 
     -- ---- one level: `J` judges the graphs further in
 
-    module _ (c : Context) (J : GraphJudge) (nest : (w : Walk) (f : Field) → Good f → Tells Any Proper (J w f)) where
-      proper-body : (w : Walk) (f : Field) → Good f → Tells Any Proper (body J w f)
-      unfolding body
-      proper-body w f g = tells-bind Any Any Proper (J w f) _ (nest w f g) (λ v _. tt)
+    module _ (c : Context) (J : GraphJudge) (nest : (w : Walk) (f : Field) → Scoped w → Good f → Tells Scoped Proper (J w f)) where
+      proper-body : (w : Walk) (f : Field) → Scoped w → Good f → Tells Scoped Proper (body J w f)
+      unfolding body leaving
+      proper-body w f s g = tells-bind Scoped Scoped Proper (J w f) _ (nest w f s g) (λ v _. s)
 
-      proper-attribute : (w : Along) (f : Field) → Good f → Tells Any Proper (attribute model J w f)
+      proper-attribute : (w : Along) (f : Field) → ScopedAlong w → Good f → Tells ScopedAlong Proper (attribute model J w f)
       unfolding attribute message subset contains
-      proper-attribute w f g =
-          tells-bind (λ x. Place (x .place)) Any Proper _ _ (proper-naming 22 Attribute·name (message model f) tt (placed f g)) (λ x p.
-          tells-rule Any Proper 31 _ _ _ (λ b. (tt, p))
-          (λ b. tells-rule Any Proper 33 _ _ _ (λ b. (tt, good-at f g)) (λ b. tells-rule Any Proper 32 _ _ _ (λ b. (tt, good-at f g)) (λ b.
-          tells-bind Any Any Proper _ _ (tells-each Good Any Proper (body J) (λ v k _ h. proper-body v k h) (bodiesOf (message model f))
-          (good-bodies model Good Place good-at good-in (message model f) (placed f g)) (w .walk) tt) (λ v _. tt)))))
+      proper-attribute w f s g =
+          tells-bind (λ x. Place (x .place)) ScopedAlong Proper _ _ (proper-naming 22 Attribute·name (message model f) tt (placed f g)) (λ x p.
+          tells-rule ScopedAlong Proper 31 _ _ _ (λ b. (tt, p, inl refl)) (λ b.
+          tells-rule ScopedAlong Proper 33 _ _ _ (λ b. (tt, good-at f g, inl refl)) (λ b.
+          tells-rule ScopedAlong Proper 32 _ _ _ (λ b. (tt, good-at f g, inl refl)) (λ b.
+          tells-bind Scoped ScopedAlong Proper _ _ (tells-each Good Scoped Proper (body J) (λ v k t h. proper-body v k t h) (bodiesOf (message model f))
+          (good-bodies model Good Place good-at good-in (message model f) (placed f g)) (w .walk) s) (λ v t. t)))))
 
-      proper-node : (w : Along) (f : Field) → Good f → Tells Any Proper (node model full c J w f)
-      unfolding node message subset contains
-      proper-node w f g =
+      proper-node : (w : Along) (f : Field) → ScopedAlong w → Good f → Tells ScopedAlong Proper (node model full c J w f)
+      unfolding node withNode along message subset contains
+      proper-node w f s g =
           let m = message model f in
           let q = placed f g in
-          tells-bind (λ x. Place (x .place)) Any Proper _ _ (proper-naming 27 Node·op-type m tt q) (λ x _.
-          tells-rule Any Proper 28 _ _ _ (λ b. (tt, place Node·domain m q)) (λ b.
-          tells-bind Any Any Proper _ _ (more-numbers Any Place (21 ∷ 29 ∷ []) refusals (nodeName model (w .earlier) m) tt
+          tells-bind (λ x. Place (x .place)) ScopedAlong Proper _ _ (proper-naming 27 Node·op-type m tt q) (λ x _.
+          tells-rule ScopedAlong Proper 28 _ _ _ (λ b. (tt, place Node·domain m q, inl refl)) (λ b.
+          tells-bind Any ScopedAlong Proper _ _ (proper-among Any (21 ∷ 29 ∷ []) (nodeName model (w .earlier) m) tt
           (nodeName-tells model Good Place good-at good-in (w .earlier) m q)) (λ names _.
-          tells-seq Any Proper (each (nodeInput model (w .walk .scope)) tt (allOf Node·input m)) _
+          tells-seq ScopedAlong Proper (each (nodeInput model (w .walk .scope)) tt (allOf Node·input m)) _
           (tells-each Good Any Proper (nodeInput model (w .walk .scope)) (λ u k _ h. proper-node-input (w .walk .scope) u k h) (allOf Node·input m)
           (parts Node·input m q) tt tt)
-          (tells-bind Any Any Proper _ _ (tells-each Good Any Proper (attribute model J) (λ v k _ h. proper-attribute v k h) (allOf Node·attribute m)
-          (parts Node·attribute m q) (along (w .walk)) tt) (λ a _.
-          tells-rule Any Proper 34 _ _ _ (λ b. (tt, good-at f g)) (λ b.
-          tells-bind Any Any Proper _ _ (tells-each Good Any Proper (nodeOutput model full) (λ v k _ h. proper-node-output v k h)
-          (allOf Node·output m) (parts Node·output m q) (a .walk) tt) (λ v _. tt)))))))
+          (tells-bind ScopedAlong ScopedAlong Proper _ _ (tells-each Good ScopedAlong Proper (attribute model J) (λ v k t h. proper-attribute v k t h)
+          (allOf Node·attribute m) (parts Node·attribute m q) (along (w .walk)) s) (λ a t.
+          tells-rule ScopedAlong Proper 34 _ _ _ (λ b. (tt, good-at f g, inl refl)) (λ b.
+          tells-bind Scoped ScopedAlong Proper _ _ (tells-each Good Scoped Proper (nodeOutput model full) (λ v k t h. proper-node-output v k t h)
+          (allOf Node·output m) (parts Node·output m q) (a .walk) t) (λ v u. u)))))))
 
-      proper-graph : (w : Walk) (f : Field) → Good f → Tells Any Proper (graphWith model full c J w f)
-      unfolding graphWith subset contains
-      proper-graph w f h =
+      proper-graph : (w : Walk) (f : Field) → Scoped w → Good f → Tells Scoped Proper (graphWith model full c J w f)
+      unfolding graphWith along subset contains
+      proper-graph w f s h =
           let g = message model f in
           let q = placed f h in
-          tells-bind (λ x. Place (x .place)) Any Proper _ _ (proper-naming 20 Graph·name g tt q) (λ x _.
-          tells-rule Any Proper 16 _ _ _ (λ b. (tt, place Graph·sparse-initializer g q)) (λ b.
-          tells-bind Any Any Proper _ _ (tells-each Good Any Proper (input model full c) (λ v k _ h. proper-input c v k h) (allOf Graph·input g)
-          (parts Graph·input g q) w tt) (λ v _.
-          tells-bind Any Any Proper _ _ (tells-each Good Any Proper (initializer model full c (inputsOf model g))
-          (λ v k _ h. proper-initializer c (inputsOf model g) v k h) (allOf Graph·initializer g)
-          (parts Graph·initializer g q) (along v) tt) (λ i _.
-          tells-bind Any Any Proper _ _ (tells-each Good Any Proper (node model full c J) (λ v k _ h. proper-node v k h) (allOf Graph·node g)
-          (parts Graph·node g q) (along (i .walk)) tt) (λ n _.
-          tells-seq Any Proper (each (output model c (n .walk .scope)) tt (allOf Graph·output g)) _
+          tells-bind (λ x. Place (x .place)) Scoped Proper _ _ (proper-naming 20 Graph·name g tt q) (λ x _.
+          tells-rule Scoped Proper 16 _ _ _ (λ b. (tt, place Graph·sparse-initializer g q, inl refl)) (λ b.
+          tells-bind Scoped Scoped Proper _ _ (tells-each Good Scoped Proper (input model full c) (λ v k t h. proper-input c v k t h) (allOf Graph·input g)
+          (parts Graph·input g q) w s) (λ v t.
+          tells-bind ScopedAlong Scoped Proper _ _ (tells-each Good ScopedAlong Proper (initializer model full c (inputsOf model g))
+          (λ v k t h. proper-initializer c (inputsOf model g) v k t h) (allOf Graph·initializer g)
+          (parts Graph·initializer g q) (along v) t) (λ i u.
+          tells-bind ScopedAlong Scoped Proper _ _ (tells-each Good ScopedAlong Proper (node model full c J) (λ v k t h. proper-node v k t h) (allOf Graph·node g)
+          (parts Graph·node g q) (along (i .walk)) u) (λ n r.
+          tells-seq Scoped Proper (each (output model c (n .walk .scope)) tt (allOf Graph·output g)) _
           (tells-each Good Any Proper (output model c (n .walk .scope)) (λ u k _ h. proper-output c (n .walk .scope) u k h) (allOf Graph·output g)
-          (parts Graph·output g q) tt tt) tt)))))
+          (parts Graph·output g q) tt tt) r)))))
 
-    proper-depths : (left : ℕ) (c : Context) (w : Walk) (f : Field) → Good f → Tells Any Proper (graph model full left c w f)
+    proper-depths : (left : ℕ) (c : Context) (w : Walk) (f : Field) → Scoped w → Good f → Tells Scoped Proper (graph model full left c w f)
     unfolding graph contains
-    proper-depths zero c w f g = (tt, good-at f g)
-    proper-depths (suc left) c w f g = proper-graph c (graph model full left (nestedIn c)) (λ w f g. proper-depths left (nestedIn c) w f g) w f g
+    proper-depths zero c w f s g = (tt, good-at f g, inl refl)
+    proper-depths (suc left) c w f s g = proper-graph c (graph model full left (nestedIn c)) (λ w f s g. proper-depths left (nestedIn c) w f s g) w f s g
 
-    proper-second : (list : Bytes) → Tells Any Proper (secondWalk model list full)
-    unfolding secondWalk secondWalkTo message whole subset contains
+    proper-second : (list : Bytes) → Tells Scoped Proper (secondWalk model list full)
+    unfolding secondWalk secondWalkTo start message whole subset contains
     proper-second list =
         let m = message model (whole model) in
-        tells-bind Any Any Proper _ _ (more-numbers Any Place Header·refusals refusals (header model list m) tt
+        tells-bind Any Scoped Proper _ _ (proper-among Any Header·refusals (header model list m) tt
         (header-tells model Good Place good-at good-in list m all)) (λ imports _.
-        tells-option Any Proper Good (firstOf Model·graph m) _ _ (good-first model Good Place good-at good-in Model·graph m all) (tt, inl refl)
-        (λ g h. proper-depths 8 (record { imports = imports; main = true }) start g h))
+        tells-option Scoped Proper Good (firstOf Model·graph m) _ _ (good-first model Good Place good-at good-in Model·graph m all) (tt, inl refl, inl refl)
+        (λ g h. proper-depths 8 (record { imports = imports; main = true }) start g tt h))
       where
         all : Placed (message model (whole model))
         all = (inl refl, ordered-all 0 (length model) (message model (whole model) .fields) (message-ordered model (whole model)))
@@ -184,12 +218,12 @@ module _ (model : Bytes) where
   proper-verdict : (list : Bytes) (cells : ℕ) → Tells Any Proper (verdict model list cells)
   unfolding verdict subset contains
   proper-verdict list cells =
-      tells-rule Any Proper 7 _ _ _ (λ b. (tt, inl refl)) (λ b.
-      tells-rule Any Proper 8 _ _ _ (λ b. (tt, inl refl)) (λ b.
+      tells-rule Any Proper 7 _ _ _ (λ b. (tt, inl refl, inl refl)) (λ b.
+      tells-rule Any Proper 8 _ _ _ (λ b. (tt, inl refl, inl refl)) (λ b.
       tells-seq Any Proper (firstWalk model) _
-      (tells-weaken Any Any (Among refusals (λ p. p < length model)) Proper (firstWalk model) (λ u _. tt) (λ r p. (p .0, inr (p .1)))
+      (tells-weaken Any Any (Among refusals (λ p. p < length model)) Proper (firstWalk model) (λ u _. tt) (λ r p. (p .0, inr (p .1), inl (p .2)))
       (more-numbers Any (λ p. p < length model) FirstWalk·refusals refusals (firstWalk model) tt (firstWalk-tells model)))
-      (tells-bind Any Any Proper _ _ (proper-second (fills cells) list) (λ w _. tt))))
+      (tells-bind Scoped Any Proper _ _ (proper-second (fills cells) list) (λ w _. tt))))
 
 pub refusedProperly : RefusedProperly
 unfolding RefusedProperly

@@ -21,7 +21,7 @@ use Rattle.rules.specs.Node.{nodeName}
 use Rattle.rules.specs.Header.{opsetImport, header}
 
 pub more-numbers : {A : Type 0} (R : A → Type 0) (Q : ℕ → Type 0) (xs ys : List ℕ) (o : Judged A) → T (subset xs ys) → Tells R (Among xs Q) o → Tells R (Among ys Q) o
-more-numbers R Q xs ys o s t = tells-weaken R R (Among xs Q) (Among ys Q) o (λ a h. h) (λ r h. (contains-subset xs ys (r .number) s (h .0), h .1)) t
+more-numbers R Q xs ys o s t = tells-weaken R R (Among xs Q) (Among ys Q) o (λ a h. h) (λ r h. (contains-subset xs ys (r .number) s (h .0), h .1, h .2)) t
 
 abbrev pub Type·refusals : List ℕ
 Type·refusals = 21 ∷ 24 ∷ 25 ∷ 37 ∷ 38 ∷ []
@@ -60,7 +60,7 @@ module _ (model : Bytes) (Good : Field → Type 0) (Q : ℕ → Type 0) (good-at
 
   pub naming-tells : (empty number : ℕ) (m : Message) → GoodMessage m → Tells (λ x. x ≡ nameOf model number m) (Among (empty ∷ 21 ∷ []) Q) (naming model empty number m)
   unfolding naming contains
-  naming-tells empty number m g = tells-rule _ _ empty _ _ _ (λ b. (here, good-place number m g)) (λ b. tells-rule _ _ 21 _ _ _ (λ b. (there, good-place number m g)) (λ b. refl))
+  naming-tells empty number m g = tells-rule _ _ empty _ _ _ (λ b. (here, good-place number m g, refl)) (λ b. tells-rule _ _ 21 _ _ _ (λ b. (there, good-place number m g, refl)) (λ b. refl))
     where
       here : T (contains empty (empty ∷ 21 ∷ []))
       here = or-left (eqb empty empty) (contains empty (21 ∷ [])) (eqb-refl empty)
@@ -74,23 +74,23 @@ module _ (model : Bytes) (Good : Field → Type 0) (Q : ℕ → Type 0) (good-at
   unfolding dim contains
   dim-tells u f g =
       let h = good-message f g in
-      tells-rule Any (Among Type·refusals Q) 38 _ _ _ (λ b. (tt, good-place Dimension·dim-value (message model f) h))
-      (λ b. tells-last (Among Type·refusals Q) 21 _ _ (λ b. (tt, good-place Dimension·dim-param (message model f) h)))
+      tells-rule Any (Among Type·refusals Q) 38 _ _ _ (λ b. (tt, good-place Dimension·dim-value (message model f) h, refl))
+      (λ b. tells-last (Among Type·refusals Q) 21 _ _ (λ b. (tt, good-place Dimension·dim-param (message model f) h, refl)))
 
   tensor-tells : (t : Message) → GoodMessage t → Tells Any (Among Type·refusals Q) (tensorType model t)
   unfolding tensorType contains
   tensor-tells t g =
-      tells-rule Any (Among Type·refusals Q) 25 _ _ _ (λ b. (tt, good-place TensorType·elem-type t g)) (λ b.
-      tells-option Any (Among Type·refusals Q) Good (firstOf TensorType·shape t) _ _ (good-first TensorType·shape t g) (tt, g .0) (λ shape h.
+      tells-rule Any (Among Type·refusals Q) 25 _ _ _ (λ b. (tt, good-place TensorType·elem-type t g, refl)) (λ b.
+      tells-option Any (Among Type·refusals Q) Good (firstOf TensorType·shape t) _ _ (good-first TensorType·shape t g) (tt, g .0, refl) (λ shape h.
       tells-each Good Any (Among Type·refusals Q) (dim model) (λ u f _ k. dim-tells u f k) (allOf Shape·dim (message model shape))
       (good-all Shape·dim (message model shape) (good-message shape h)) tt tt))
 
   pub type-tells : (v : Message) → GoodMessage v → Tells Any (Among Type·refusals Q) (declaredType model v)
   unfolding declaredType contains
   type-tells v g =
-      tells-option Any (Among Type·refusals Q) Good (firstOf ValueInfo·type v) _ _ (good-first ValueInfo·type v g) (tt, g .0) (λ t h.
+      tells-option Any (Among Type·refusals Q) Good (firstOf ValueInfo·type v) _ _ (good-first ValueInfo·type v g) (tt, g .0, refl) (λ t h.
       tells-option Any (Among Type·refusals Q) Good (firstOf TypeProto·tensor (message model t)) _ _
-      (good-first TypeProto·tensor (message model t) (good-message t h)) (tt, good-at t h) (λ u k.
+      (good-first TypeProto·tensor (message model t) (good-message t h)) (tt, good-at t h, refl) (λ u k.
       tensor-tells (message model u) (good-message u k)))
 
   pub main-type-tells : (c : Context) (v : Message) → GoodMessage v → Tells Any (Among Type·refusals Q) (inMain c (declaredType model v))
@@ -102,24 +102,24 @@ module _ (model : Bytes) (Good : Field → Type 0) (Q : ℕ → Type 0) (good-at
   pub nodeName-tells : (earlier : List Bytes) (m : Message) → GoodMessage m → Tells Any (Among (21 ∷ 29 ∷ []) Q) (nodeName model earlier m)
   unfolding nodeName contains
   nodeName-tells earlier m g = tells-if Any (Among (21 ∷ 29 ∷ []) Q) (isEmpty (bytesOf model Node·name m)) _ _ (λ b. tt) (λ b.
-      tells-rule Any (Among (21 ∷ 29 ∷ []) Q) 21 _ _ _ (λ b. (tt, good-place Node·name m g))
-      (λ b. tells-rule Any (Among (21 ∷ 29 ∷ []) Q) 29 _ _ _ (λ b. (tt, good-place Node·name m g)) (λ b. tt)))
+      tells-rule Any (Among (21 ∷ 29 ∷ []) Q) 21 _ _ _ (λ b. (tt, good-place Node·name m g, refl))
+      (λ b. tells-rule Any (Among (21 ∷ 29 ∷ []) Q) 29 _ _ _ (λ b. (tt, good-place Node·name m g, refl)) (λ b. tt)))
 
   -- ---- the header
 
   import-tells : (list : Bytes) (imports : List Bytes) (f : Field) → Good f → Tells Any (Among Header·refusals Q) (opsetImport model list imports f)
   unfolding opsetImport contains message
   import-tells list imports f g =
-      tells-rule Any (Among Header·refusals Q) 13 _ _ _ (λ b. (tt, good-at f g))
-      (λ b. tells-rule Any (Among Header·refusals Q) 14 _ _ _ (λ b. (tt, good-at f g)) (λ b. tt))
+      tells-rule Any (Among Header·refusals Q) 13 _ _ _ (λ b. (tt, good-at f g, refl))
+      (λ b. tells-rule Any (Among Header·refusals Q) 14 _ _ _ (λ b. (tt, good-at f g, refl)) (λ b. tt))
 
   pub header-tells : (list : Bytes) (m : Message) → GoodMessage m → Tells Any (Among Header·refusals Q) (header model list m)
   unfolding header contains
   header-tells list m g =
-      tells-rule Any (Among Header·refusals Q) 10 _ _ _ (λ b. (tt, good-place Model·ir-version m g)) (λ b.
-      tells-rule Any (Among Header·refusals Q) 11 _ _ _ (λ b. (tt, g .0)) (λ b.
-      tells-rule Any (Among Header·refusals Q) 12 _ _ _ (λ b. (tt, g .0)) (λ b.
+      tells-rule Any (Among Header·refusals Q) 10 _ _ _ (λ b. (tt, good-place Model·ir-version m g, refl)) (λ b.
+      tells-rule Any (Among Header·refusals Q) 11 _ _ _ (λ b. (tt, g .0, refl)) (λ b.
+      tells-rule Any (Among Header·refusals Q) 12 _ _ _ (λ b. (tt, g .0, refl)) (λ b.
       tells-bind Any Any (Among Header·refusals Q) _ _
       (tells-each Good Any (Among Header·refusals Q) (opsetImport model list) (λ imports f _ k. import-tells list imports f k)
       (allOf Model·opset-import m) (good-all Model·opset-import m g) [] tt) (λ imports _.
-      tells-rule Any (Among Header·refusals Q) 15 _ _ _ (λ b. (tt, good-place Model·functions m g)) (λ b. tt)))))
+      tells-rule Any (Among Header·refusals Q) 15 _ _ _ (λ b. (tt, good-place Model·functions m g, refl)) (λ b. tt)))))

@@ -72,7 +72,7 @@ keeps-bound : (r : Run) (x : Name) → Ready Never r → Keeps Never (r .trace) 
 unfolding bind withBound
 keeps-bound r x h = go (find (x .bytes) (r .bound))
   where
-    go : (o : Option ℕ) → Keeps Never (r .trace) (elim o [ none ↦ pass (withBound r x) | some p ↦ fail (binding (x .place)) ])
+    go : (o : Option ℕ) → Keeps Never (r .trace) (elim o [ none ↦ pass (withBound r x) | some p ↦ fail (binding (x .place) p) ])
     go none = (h .0, h .1, λ y m. inl m)
     go (some p) = tt
 

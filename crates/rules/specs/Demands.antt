@@ -7,7 +7,7 @@ use mathlib.Core.List.{List, [], _∷_, _++_, map, flatMap, List·Memᴰ}
 use mathlib.Core.Option.{none, some}
 use lib.ListN.{length, replicate}
 use lib.Dec.{T}
-use Rattle.varint.specs.Outcome.{pass, fail, refused}
+use Rattle.varint.specs.Outcome.{pass, fail, refused, refusedWith}
 use Rattle.varint.specs.declared.Refusal.{Refusal}
 use Rattle.varint.specs.declared.Varint.{Varint}
 use Rattle.wire.specs.declared.Field.{Field}
@@ -29,7 +29,7 @@ use Rattle.schema.specs.Opened.{Opened, innermost}
 use Rattle.rules.specs.Names.{Name, bodiesOf, nameOf, nameIn, inputsOf}
 use Rattle.rules.specs.Walk.{Walk}
 use Rattle.rules.specs.Header.{secondWalkTo, secondWalk}
-use Rattle.rules.specs.Verdict.{LARGEST, Counts, counts, verdict}
+use Rattle.rules.specs.Verdict.{LARGEST, Counts, counts, room, verdict}
 use Rattle.rules.specs.Runner.{Read, binding, reading, Run, find, runTo, run}
 use Rattle.rules.specs.Count.{nodesTo, nodeCount}
 use Rattle.rules.specs.Refusals.{refusals}
@@ -37,13 +37,13 @@ use Rattle.rules.specs.Refusals.{refusals}
 -- ---- demand 2
 
 -- "the list is sound, the model keeps the size, Protocol Buffers and ONNX IR rules that document 01 lists, and its greatest
--- count of names in scope fits the cells": the second walk here has no cells to fill.
+-- count of names in scope fits the cells", of which a name takes two: the second walk here has no cells to fill.
 pub record Acceptable (model list : Bytes) (cells : ℕ) (c : Counts) : Type 0 where
   pub list-sound : sound list ≡ true
   pub size-kept : length model ≤ LARGEST
   pub wire-kept : firstWalk model ≡ pass tt
   pub rules-kept : (w : Walk) × (secondWalk model list (λ visible. false) ≡ pass w) × (counts w ≡ c)
-  pub names-fit : c .names ≤ cells
+  pub names-fit : c .names ≤ room cells
 
 -- "A model is accepted exactly when .." this holds, and with these counts.
 unfoldable pub AcceptedExactly : Type 0
@@ -57,11 +57,12 @@ CountsTrue =
     (model list : Bytes) (cells : ℕ) (c : Counts) → verdict model list cells ≡ pass c →
     (c .nodes ≡ nodeCount model) × ((r : Run) × (run model [] ≡ pass r) × (c .names ≡ r .most))
 
--- "a numbered refusal with a byte place": a number of the table, and 0 or a place inside the model.
+-- "a numbered refusal with a byte place": a number of the table, and 0 or a place inside the model. The second number is 0, or of a
+-- name defined twice a place inside the model, not always before the first: wire order is not list order.
 unfoldable pub RefusedProperly : Type 0
 RefusedProperly =
     (model list : Bytes) (cells : ℕ) (r : Refusal) → verdict model list cells ≡ fail r →
-    T (contains (r .number) refusals) × ((r .place ≡ 0) ⊎ (r .place < length model))
+    T (contains (r .number) refusals) × ((r .place ≡ 0) ⊎ (r .place < length model)) × ((r .first ≡ 0) ⊎ ((r .number ≡ 23) × (r .first < length model)))
 
 -- "visible names already equal the cells": with more cells an answer stays what it is, unless it is a 40. So whoever lends more after each 40
 -- ends with the answer of every greater number of them.
@@ -74,7 +75,7 @@ EnoughCells =
 unfoldable pub PlacesShort : Type 0
 PlacesShort =
     (model list : Bytes) (cells : ℕ) →
-    ((r : Refusal) → verdict model list cells ≡ fail r → r .place < 2 ^ 31) ×
+    ((r : Refusal) → verdict model list cells ≡ fail r → (r .place < 2 ^ 31) × (r .first < 2 ^ 31)) ×
     ((c : Counts) → verdict model list cells ≡ pass c → length model < 2 ^ 31)
 
 -- "67,108,864 / 67,108,865 bytes, all `00`" are "3 at 0 / 7 at 0", at the limit as it now is: too many bytes for a sample to compute with.
@@ -88,14 +89,14 @@ ZerosAtLimit =
 -- Of an accepted model: "For every list of such choices the run, begun with no name bound, reaches its end", and "Any two reads of
 -- the same field, in one run or in two runs under different lists of choices, find the same defining place." Of one refused "for a
 -- name defined twice, a name not defined or an output not defined, the run that enters every body once stops at that very
--- place."
+-- place", and the name that it finds bound there has the second number as its defining place.
 pub record Faithful (model list : Bytes) (cells : ℕ) : Type 0 where
   pub ends : (c : Counts) → verdict model list cells ≡ pass c → (choices : List ℕ) → (r : Run) × (run model choices ≡ pass r)
   pub agrees :
       (c : Counts) → verdict model list cells ≡ pass c →
       (choices₁ choices₂ : List ℕ) (r₁ r₂ : Run) → run model choices₁ ≡ pass r₁ → run model choices₂ ≡ pass r₂ →
       (x₁ x₂ : Read) → List·Memᴰ x₁ (r₁ .trace) → List·Memᴰ x₂ (r₂ .trace) → x₁ .field ≡ x₂ .field → x₁ .found ≡ x₂ .found
-  pub stops-binding : (p : ℕ) → verdict model list cells ≡ refused 23 p → run model [] ≡ fail (binding p)
+  pub stops-binding : (p first : ℕ) → verdict model list cells ≡ refusedWith 23 p first → run model [] ≡ fail (binding p first)
   pub stops-reading : (p : ℕ) → verdict model list cells ≡ refused 30 p → run model [] ≡ fail (reading p)
   pub stops-output : (p : ℕ) → verdict model list cells ≡ refused 35 p → run model [] ≡ fail (reading p)
 

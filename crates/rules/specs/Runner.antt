@@ -61,9 +61,11 @@ pub record Read : Type 0 where
   pub field : ℕ
   pub found : ℕ
 
--- "The runner stops on reading an unbound or binding a bound name, at the tag of the field that holds that name."
+-- "The runner stops on reading an unbound or binding a bound name, at the tag of the field that holds that name." Told of a bound
+-- name besides: the defining place that was found.
 pub data Stop : Type 0 where
-  binding reading : (place : ℕ) → Stop
+  binding : (place found : ℕ) → Stop
+  reading : (place : ℕ) → Stop
 
 -- "State: bound names, none at first, each with its defining place", the newest first, and the choices that are left. Told of
 -- the run besides: its reads, the latest first, and the most names bound together so far.
@@ -94,7 +96,7 @@ withRead r field found =
     record { choices = r .choices; bound = r .bound; trace = record { field = field; found = found } ∷ r .trace; most = r .most }
 
 unfoldable pub bind : Run → Name → Ran
-bind r x = elim (find (x .bytes) (r .bound)) [ none ↦ pass (withBound r x) | some p ↦ fail (binding (x .place)) ]
+bind r x = elim (find (x .bytes) (r .bound)) [ none ↦ pass (withBound r x) | some p ↦ fail (binding (x .place) p) ]
 
 unfoldable pub read : Run → Name → Ran
 read r x = elim (find (x .bytes) (r .bound)) [ none ↦ fail (reading (x .place)) | some p ↦ pass (withRead r (x .place) p) ]

@@ -59,13 +59,13 @@ runs =
     ∷ (self-reader, 0 ∷ [], pass ((72, 67) ∷ []))
     -- a default, and a second one
     ∷ (graph "x" "x" (node "x" [] "y" ∷ []) "y", [], pass ((33, 13) ∷ (44, 39) ∷ []))
-    ∷ (graph "x" "x x" (node "x" [] "y" ∷ []) "y", [], fail (binding 35))
+    ∷ (graph "x" "x x" (node "x" [] "y" ∷ []) "y", [], fail (binding 35 13))
     -- a body binds an outer name
-    ∷ (graph "x" "" (node "" (body "do" (graph "x" "" [] "x") ∷ []) "y" ∷ []) "y", [], fail (binding 42))
+    ∷ (graph "x" "" (node "" (body "do" (graph "x" "" [] "x") ∷ []) "y" ∷ []) "y", [], fail (binding 42 13))
     -- use before definition, an output that is not defined, a name bound twice
     ∷ (graph "x" "" (node "a" [] "y" ∷ node "x" [] "a" ∷ []) "y", [], fail (reading 26))
     ∷ (graph "x" "" (node "x" [] "a" ∷ []) "y", [], fail (reading 37))
-    ∷ (graph "x" "" (node "x" [] "y y" ∷ []) "y", [], fail (binding 35))
+    ∷ (graph "x" "" (node "x" [] "y y" ∷ []) "y", [], fail (binding 35 32))
     -- the same output listed twice; a left-out input and a left-out output
     ∷ (graph "x" "" (node "x" [] "y" ∷ []) "y y", [], pass ((26, 13) ∷ (37, 32) ∷ (50, 32) ∷ []))
     ∷ (graph "x" "" (node " x" [] " y" ∷ []) "y", [], pass ((28, 13) ∷ (41, 36) ∷ []))

@@ -2,7 +2,7 @@
 use Prim.Native.Nat.{ℕ}
 use mathlib.Core.Path.{_≡_, refl}
 use mathlib.Core.List.{List, [], _∷_, map}
-use Rattle.varint.specs.Outcome.{pass, Judged, refused}
+use Rattle.varint.specs.Outcome.{pass, Judged, refused, refusedWith}
 use Rattle.varint.specs.Bytes.{Bytes}
 use Rattle.varint.specs.Notation.{hex, Notation·computes}
 use Rattle.operators.specs.Samples.{L}
@@ -27,10 +27,10 @@ samples =
     ∷ (hex "08 FF FF FF FF FF FF FF FF FF 01", 0, refused 10 0)
     ∷ (hex "08 FF FF FF FF FF FF FF FF FF 02", 0, refused 2 0)
     ∷ (M0, 0, accepted 0 0)
-    ∷ (M1, 1, accepted 1 1)
+    ∷ (M1, 2, accepted 1 1)
     ∷ (M1, 0, refused 40 13)
     ∷ (hex "08 08 42 02 10 0D 3A 0E 12 01 67 0A 09 0A 01 61 12 01 61 22 01 58", 1, refused 30 13)
-    ∷ (hex "08 08 42 02 10 0D 3A 0E 12 01 67 0A 09 12 01 61 12 01 61 22 01 58", 1, refused 23 16)
+    ∷ (hex "08 08 42 02 10 0D 3A 0E 12 01 67 0A 09 12 01 61 12 01 61 22 01 58", 2, refusedWith 23 16 13)
     ∷ []
 
 samples-hold : map (λ s. verdict (s .0) L (s .1)) samples ≡ map (λ s. s .2) samples

@@ -1,6 +1,6 @@
 -- The answer to a model, an operator list and a number of cells: "either *accepted* with two counts, or *refused* with a number
--- and a place".
-use Prim.Native.Nat.{ℕ}
+-- and a place", and a second number.
+use Prim.Native.Nat.{ℕ, _/_}
 use mathlib.Core.Bool.{Bool, not}
 use lib.ListN.{length}
 use lib.Dec.{leb, ltb}
@@ -23,9 +23,17 @@ counts w = record { nodes = w .nodes; names = w .most }
 unfoldable pub LARGEST : ℕ
 LARGEST = 2_147_483_647
 
--- "visible names already equal the cells". Cells, document 01's term, are what the caller lends: one holds one visible name.
+-- Cells, document 01's term, are what the caller lends. "Each scope record now holds place and length, so a name takes two cells".
+unfoldable pub WIDTH : ℕ
+WIDTH = 2
+
+-- How many names they hold: "half the cells, rounded down".
+unfoldable pub room : (cells : ℕ) → ℕ
+room cells = cells / WIDTH
+
+-- "visible names already equal the cells", of which a name takes two.
 unfoldable pub fills : (cells visible : ℕ) → Bool
-fills cells visible = leb cells visible
+fills cells visible = leb (room cells) visible
 
 -- "7 .. (tested first of all)", "8 .. (second)", the first walk, the second.
 unfoldable pub verdict : (model list : Bytes) → (cells : ℕ) → Judged Counts
@@ -38,5 +46,5 @@ verdict model list cells = do
 
 -- This file and what it is built on, for whoever computes with it.
 unfoldable pub Verdict·computes : Unit {0}
-unfolding FirstWalk·computes Header·computes counts LARGEST fills verdict
+unfolding FirstWalk·computes Header·computes counts LARGEST WIDTH room fills verdict
 Verdict·computes = tt

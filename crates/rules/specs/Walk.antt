@@ -3,7 +3,7 @@ use Prim.Native.Nat.{ℕ, _+_, max}
 use mathlib.Core.Bool.{Bool, true, false, not, _||_}
 use mathlib.Core.List.{List, [], _∷_}
 use lib.ListN.{length}
-use Rattle.varint.specs.Outcome.{pass, _>>_, Judged, Rule, refuse_at:_when:_}
+use Rattle.varint.specs.Outcome.{pass, _>>_, Judged, Rule, refuse_at:_when:_, refuse_at:_first:_when:_}
 use Rattle.wire.specs.declared.Field.{Field}
 use Rattle.varint.specs.Lists.{isEmpty}
 use Rattle.varint.specs.Bytes.{Bytes, same}
@@ -59,6 +59,11 @@ unfoldable pub visible : Bytes → List Name → Bool
 visible x [] = false
 visible x (n ∷ more) = same x (n .bytes) || visible x more
 
+-- "the place of the definition already visible"; 0 where there is none.
+unfoldable pub definedAt : Bytes → List Name → ℕ
+definedAt x [] = 0
+definedAt x (n ∷ more) = elim (same x (n .bytes)) [ true ↦ n .place | false ↦ definedAt x more ]
+
 -- A name that may not be empty, which is refusal `empty`, and must be an identifier: 21.
 unfoldable pub naming : (model : Bytes) → (empty number : ℕ) → Message → Judged Name
 naming model empty number m = do
@@ -69,11 +74,11 @@ naming model empty number m = do
 -- A new name: 23, 40, "and is visible from then on". `full` says of a number of visible names whether they fill the cells.
 unfoldable pub define : (full : ℕ → Bool) → Walk → Name → Judged Walk
 define full w x = do
-  refuse 23 at: x .place when: visible (x .bytes) (w .scope)
+  refuse 23 at: x .place first: definedAt (x .bytes) (w .scope) when: visible (x .bytes) (w .scope)
   refuse 40 at: x .place when: full (length (w .scope))
   pass (withName w x)
 
 -- This file and what it is built on, for whoever computes with it.
 unfoldable pub Walk·computes : Unit {0}
-unfolding Identifier·computes Names·computes nestedIn inMain start withName withNode leaving along visible naming define
+unfolding Identifier·computes Names·computes nestedIn inMain start withName withNode leaving along visible definedAt naming define
 Walk·computes = tt

@@ -1,37 +1,38 @@
 -- What a passed first walk says of every message that it opened: it was walked too and passed, no graph stands at
--- depth 9, and its fields leave no gap.
+-- depth 9, its fields have the wire types of their rows and leave no gap.
 use Prim.Native.Nat.{ℕ, zero, suc, _+_, _-_, _≤_, _<_}
 use native.Mathlib.Omega.{arith}
 use mathlib.Core.Path.{_≡_, refl, sym, _∙_}
 use mathlib.Core.Bool.{Bool, true, false, not, _&&_}
 use mathlib.Core.List.{List, [], _∷_, List·Memᴰ}
 use mathlib.Core.Option.{Option, none, some}
-use lib.Dec.{T, leb, eqb}
+use lib.Dec.{T, leb, eqb, eqb→eq}
 use borrow.Author.Tests.{leb-true}
 use Rattle.varint.specs.Outcome.{pass, fail, _>>=_, Rule, refuse_at:_when:_}
 use Rattle.varint.specs.Bytes.{Bytes}
 use Rattle.wire.specs.Wire.{tag, value, field, fieldsFrom, fields}
-use Rattle.wire.specs.Message.{message}
+use Rattle.wire.specs.Message.{allOf, message, whole}
 use Rattle.wire.specs.Order.{Gapless}
 use Rattle.wire.specs.declared.Tag.{Tag}
 use Rattle.wire.specs.declared.Field.{Field}
-use Rattle.varint.proofs.Lists.{All, If, all-member}
+use Rattle.varint.proofs.Lists.{All, If, all-member, keep-exactly}
 use Rattle.varint.proofs.Passing.{passed-bind, passed-seq, passed-rule, passed-tells}
 use Rattle.wire.proofs.Reading.{Fits, AtTag, Follows, tag-tells, value-tells, field-tells, field-placed}
 use Rattle.wire.proofs.Fields.{fields-ordered, ordered-all}
 use Rattle.schema.specs.declared.Kind.{Kind}
+use Rattle.schema.specs.declared.Kind.the-variants.{Model}
 use Rattle.schema.specs.Rows.{rowOf, isGraph}
-use Rattle.schema.specs.FirstWalk.{fits, slotOf, taken, take-up, kindOf, deeper, contents, turn, walk, walked}
-use Rattle.schema.specs.Opened.{Opened, innermost}
+use Rattle.schema.specs.FirstWalk.{fits, slotOf, taken, take-up, kindOf, deeper, contents, turn, walk, walked, firstWalk}
+use Rattle.schema.specs.Opened.{Opened, innermost, Walked}
 use Rattle.schema.proofs.Bound.{walk-bound}
 
 module _ (model : Bytes) where
-  -- a field opens no message, or one that is sound at its depth
+  -- a field has the wire type of its row, and opens no message, or one that is sound at its depth
   abbrev pub Sound : (depth : ℕ) → Field → Kind → Type 0
   Sound depth f k = T (not (isGraph k && eqb depth 8)) × (walked model k (deeper k depth) [] (f .next) (f .start) ≡ pass tt)
 
   abbrev pub Opens : Kind → (depth : ℕ) → Field → Type 0
-  Opens kind depth f = If (Sound depth f) (kindOf (rowOf kind (f .number)))
+  Opens kind depth f = T (fits (f .wire) (rowOf kind (f .number))) × If (Sound depth f) (kindOf (rowOf kind (f .number)))
 
   contents-passed : (n depth : ℕ) (o : Option Kind) (f : Field) → f .next ≤ f .start + n
       → contents model (λ k d e p. walk model n k d [] e p) depth o f ≡ pass tt
@@ -61,7 +62,13 @@ module _ (model : Bytes) where
       let g = passed-bind (contents model (λ k d e p. walk model n k d [] e p) depth (kindOf row) f) _ tt (d .2) in
       let at′ = passed-tells (λ t. (t .place ≡ pos) × (pos < t .next)) (AtTag pos) (tag model end pos) t (tag-tells model end pos) (a .1) in
       let on = passed-tells (Follows t end) (AtTag (t .place)) (value model t end) f (value-tells model t end) (d .1) in
-      (f, field-of end pos t f (a .1) (d .1), omega arith, rw (on .1) (contents-passed n depth (kindOf row) f (omega arith) (g .1)), (take-up (slotOf (t .number) row) slots, g .2))
+      let wire = not-not (fits (t .wire) row) (passed-rule 4 pos (not (fits (t .wire) row)) (b .0)) in
+      let opens : Opens kind depth f = (rw (on .5, on .1) wire, rw (on .1) (contents-passed n depth (kindOf row) f (omega arith) (g .1))) in
+      (f, field-of end pos t f (a .1) (d .1), omega arith, opens, (take-up (slotOf (t .number) row) slots, g .2))
+    where
+      not-not : (b : Bool) → T (not (not b)) → T b
+      not-not true h = tt
+      not-not false h = absurd h
 
   walk-passed : (n : ℕ) (kind : Kind) (depth : ℕ) (slots : List ℕ) (end pos : ℕ)
       → end ≤ pos + n → walk model n kind depth slots end pos ≡ pass tt
@@ -125,7 +132,7 @@ module _ (model : Bytes) where
   opened-gapless kind depth f l w [] o = walked-gapless kind depth (f .next) (f .start) l w
   opened-gapless kind depth f l w (g ∷ inner) (m, (k, e, o)) =
       let inside = field-fits f m in
-      let sound : If (Sound depth g) (some k) = rw e at (all-member (Opens kind depth) (fields model (f .next) (f .start)) (walked-opens kind depth (f .next) (f .start) w) m) in
+      let sound : If (Sound depth g) (some k) = rw e at (all-member (Opens kind depth) (fields model (f .next) (f .start)) (walked-opens kind depth (f .next) (f .start) w) m .1) in
       opened-gapless k (deeper k depth) g (inside .2) (sound .1) inner o
 
   -- an opened message lies inside the one around it
@@ -135,3 +142,34 @@ module _ (model : Bytes) where
   unfolding innermost message
   opened-within kind f size l h [] o = (l, h)
   opened-within kind f size l h (g ∷ inner) (m, (k, e, o)) = let fits = field-fits f m in let stop = fits .3 in opened-within k g size (fits .2) (omega arith) inner o
+
+-- ---- the fields of one number of a message that was walked
+
+module _ {model : Bytes} {kind : Kind} {m : Field} (w : Walked model kind m) (n : ℕ) {g : Field} (here : List·Memᴰ g (allOf n (message model m))) where
+  found : List·Memᴰ g (fields model (m .next) (m .start)) × T (eqb n (g .number))
+  unfolding allOf message
+  found = keep-exactly (λ f. eqb n (f .number)) g (fields model (m .next) (m .start)) .0 here
+
+  numbered : g .number ≡ n
+  numbered = sym (eqb→eq n (g .number) (found .1))
+
+  opens : Opens model kind (w .passed .0) g
+  opens = all-member (Opens model kind (w .passed .0)) (fields model (m .next) (m .start)) (walked-opens model kind (w .passed .0) (m .next) (m .start) (w .passed .1)) (found .0)
+
+  -- it has the wire type of its row
+  pub walked-fits : T (fits (g .wire) (rowOf kind n))
+  walked-fits = rw numbered at (opens .0)
+
+  -- and holds a message that was walked, where its row opens it
+  pub walked-inner : {k : Kind} → kindOf (rowOf kind n) ≡ some k → Walked model k g
+  walked-inner {k} e =
+      let sound : If (Sound model (w .passed .0) g) (kindOf (rowOf kind n)) = rw numbered at (opens .1) in
+      let inner : If (Sound model (w .passed .0) g) (some k) = rw e at sound in
+      let last = field-fits model m (found .0) .3 in
+      let size = w .inside in
+      record { inside = omega arith; passed = (_, inner .1) }
+
+-- the model itself
+pub walked-whole : (model : Bytes) → firstWalk model ≡ pass tt → Walked model Model (whole model)
+unfolding firstWalk whole
+walked-whole model e = record { inside = omega arith; passed = (0, e) }

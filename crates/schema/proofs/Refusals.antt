@@ -1,7 +1,7 @@
 -- The first walk refuses with 1 to 6 and 9, inside the message that it walks.
 use Prim.Native.Nat.{ℕ, zero, suc, _≤_, _<_}
 use native.Mathlib.Omega.{arith}
-use mathlib.Core.Path.{_≡_}
+use mathlib.Core.Path.{_≡_, refl}
 use mathlib.Core.List.{List, [], _∷_}
 use mathlib.Core.Option.{Option, none, some}
 use lib.ListN.{length}
@@ -27,7 +27,7 @@ Before end = Among FirstWalk·refusals (λ p. p < end)
 
 of-reader : (place end : ℕ) → place < end → (r : Refusal) → AtTag place r → Before end r
 unfolding subset contains
-of-reader place end h r a = let e = a .1 in (contains-subset Wire·refusals FirstWalk·refusals (r .number) tt (a .0), omega arith)
+of-reader place end h r a = let e = a .1 in (contains-subset Wire·refusals FirstWalk·refusals (r .number) tt (a .0), omega arith, a .2)
 
 module _ (model : Bytes) where
   contents-tells : (inner : Kind → (depth end pos : ℕ) → Rule) → ((k : Kind) (d e p : ℕ) → Tells Any (Before e) (inner k d e p))
@@ -36,9 +36,9 @@ module _ (model : Bytes) where
   unfolding contents contains
   contents-tells inner h end depth none f l k = tt
   contents-tells inner h end depth (some kind) f l k =
-      tells-rule Any (Before end) 6 _ _ _ (λ b. (tt, l))
+      tells-rule Any (Before end) 6 _ _ _ (λ b. (tt, l, refl))
       (λ b. tells-weaken Any Any (Before (f .next)) (Before end) (inner kind (deeper kind depth) (f .next) (f .start)) (λ u x. tt)
-      (λ r x. let y = x .1 in (x .0, omega arith)) (h kind (deeper kind depth) (f .next) (f .start)))
+      (λ r x. let y = x .1 in (x .0, omega arith, x .2)) (h kind (deeper kind depth) (f .next) (f .start)))
 
   walk-tells : (n : ℕ) (kind : Kind) (depth : ℕ) (slots : List ℕ) (end pos : ℕ) → Tells Any (Before end) (walk model n kind depth slots end pos)
   unfolding walk turn contains
@@ -46,7 +46,7 @@ module _ (model : Bytes) where
   walk-tells (suc n) kind depth slots end pos = tells-if Any (Before end) (leb end pos) _ _ (λ b. tt) (λ b. let l = nleb→lt end pos b in
       tells-bind (λ t. (t .place ≡ pos) × (pos < t .next)) Any (Before end) _ _
       (tells-weaken _ _ (AtTag pos) (Before end) (tag model end pos) (λ t x. x) (of-reader pos end l) (tag-tells model end pos)) (λ t q.
-      tells-rule Any (Before end) 4 _ _ _ (λ b. (tt, l)) (λ b. tells-rule Any (Before end) 5 _ _ _ (λ b. (tt, l)) (λ b.
+      tells-rule Any (Before end) 4 _ _ _ (λ b. (tt, l, refl)) (λ b. tells-rule Any (Before end) 5 _ _ _ (λ b. (tt, l, refl)) (λ b.
       tells-bind (Follows t end) Any (Before end) _ _
       (tells-weaken _ _ (AtTag (t .place)) (Before end) (value model t end) (λ f x. x) (of-reader (t .place) end (omega arith))
       (value-tells model t end)) (λ f on.

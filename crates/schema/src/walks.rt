@@ -156,6 +156,7 @@ fn refused(number: u8, place: usize) -> WalkAnswer
     WalkAnswer::Refused(Refusal {
         number: number,
         place: place,
+        first: 0,
     })
 }
 

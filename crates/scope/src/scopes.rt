@@ -142,6 +142,7 @@ pub fn stopped(number: u8, place: usize) -> Step
     Step::Refused(Refusal {
         number: number,
         place: place,
+        first: 0,
     })
 }
 

@@ -22,6 +22,7 @@ fn misnamed(number: u8, place: usize) -> Naming
     Naming::Refused(Refusal {
         number: number,
         place: place,
+        first: 0,
     })
 }
 

@@ -11,5 +11,6 @@ pub fn refused(number: u8, place: usize) -> Ruling
     Ruling::Refused(Refusal {
         number: number,
         place: place,
+        first: 0,
     })
 }

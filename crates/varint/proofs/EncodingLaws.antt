@@ -46,12 +46,13 @@ low-seven b high h k = omega arith
 high-bits : (b high : ℕ) → (b % 128 + 128 * high) / 128 ≡ high
 high-bits b high = omega arith
 
-module _ (s : Bytes) (octets : Octets s) (place end : ℕ) (inside : end ≤ length s) where
+module _ (s : Bytes) (place end : ℕ) (inside : end ≤ length s) where
   -- from a byte that is not the first on, a varint that ends in no 0 is a number above 0
   record Written (left pos : ℕ) (v : Varint) : Type 0 where
     onward : pos < v .next
     within : v .next ≤ end
-    bytes : part pos (v .next - pos) s ≡ encodeFrom left (v .value)
+    width : v .next ≡ pos + length (encodeFrom left (v .value))
+    bytes : Octets s → part pos (v .next - pos) s ≡ encodeFrom left (v .value)
     some : left < 10 → 0 < v .value
 
   Whole : (left pos : ℕ) → Varint → Type 0
@@ -65,7 +66,8 @@ module _ (s : Bytes) (octets : Octets s) (place end : ℕ) (inside : end ≤ len
       record {
         onward = omega arith;
         within = omega arith;
-        bytes = part-first s pos (pos + 1) (omega arith) (omega arith) ∙ rw (none, lt-ltb (byte s pos) 128 k, encodeFrom) refl;
+        width = rw (lt-ltb (byte s pos) 128 k, encodeFrom) refl;
+        bytes = λ octets. part-first s pos (pos + 1) (omega arith) (omega arith) ∙ rw (none, lt-ltb (byte s pos) 128 k, encodeFrom) refl;
         some = λ m. above (ltb 0 (byte s pos)) refl (rw (ne-eqb left 9 (λ z. omega arith)) at short);
       }
     where
@@ -82,21 +84,37 @@ module _ (s : Bytes) (octets : Octets s) (place end : ℕ) (inside : end ≤ len
       let near = ih .within in
       let some : 0 < high .value = ih .some (omega arith) in
       let big : ltb (byte s pos % 128 + 128 * high .value) 128 ≡ false = le-ltb (byte s pos % 128 + 128 * high .value) 128 (omega arith) in
-      let here = low-seven (byte s pos) (high .value) k (octets pos) in
       let up = high-bits (byte s pos) (high .value) in
       let first = part-first s pos (high .next) (omega arith) (omega arith) in
       record {
         onward = omega arith;
         within = omega arith;
-        bytes = first ∙ rw (big, here, up, encodeFrom) (ap (λ (x : Bytes). byte s pos ∷ x) (ih .bytes));
+        width = rw (big, up, encodeFrom) (let w = ih .width in omega arith);
+        bytes = λ octets.
+            let here = low-seven (byte s pos) (high .value) k (octets pos) in
+            first ∙ rw (big, here, up, encodeFrom) (ap (λ (x : Bytes). byte s pos ∷ x) (ih .bytes octets));
         some = λ m. omega arith;
       }
 
   -- "whether the form was the shortest": then it is the form that is written
-  pub varint-written : (pos : ℕ) (v : Varint) → shortestVarint s place end pos ≡ pass v
-      → (pos < v .next) × (v .next ≤ end) × (part pos (v .next - pos) s ≡ encode (v .value))
-  unfolding encode varint Whole
-  varint-written pos v e =
+  written : (pos : ℕ) (v : Varint) → shortestVarint s place end pos ≡ pass v → Written 10 pos v
+  unfolding varint Whole
+  written pos v e =
       let k = shortest-is s place end pos v e in
-      let w = varint-each s place end Whole written-last written-more 10 pos v (omega arith) (k .0) (k .1) in
-      (w .onward, w .within, w .bytes)
+      varint-each s place end Whole written-last written-more 10 pos v (omega arith) (k .0) (k .1)
+
+  pub varint-written : Octets s → (pos : ℕ) (v : Varint) → shortestVarint s place end pos ≡ pass v
+      → (pos < v .next) × (v .next ≤ end) × (part pos (v .next - pos) s ≡ encode (v .value))
+  unfolding encode
+  varint-written octets pos v e = let w = written pos v e in (w .onward, w .within, w .bytes octets)
+
+  -- how many bytes it takes follows from its value
+  pub varint-width : (pos : ℕ) (v : Varint) → shortestVarint s place end pos ≡ pass v → v .next ≡ pos + length (encode (v .value))
+  unfolding encode
+  varint-width pos v e = written pos v e .width
+
+-- ---- how many bytes a number takes
+
+pub width-one : (n : ℕ) → n < 128 → length (encode n) ≡ 1
+unfolding encode encodeFrom
+width-one n h = rw (lt-ltb n 128 h, encodeFrom) refl

@@ -5,7 +5,7 @@ use mathlib.Core.Bool.{Bool, true, false, not}
 use mathlib.Core.List.{List, [], _∷_}
 use mathlib.Core.Option.{Option, none, some}
 use lib.Dec.{T}
-use Rattle.varint.specs.Outcome.{Outcome, pass, fail, _>>=_, _>>_, each, Judged, refuse_at:_when:_}
+use Rattle.varint.specs.Outcome.{Outcome, pass, fail, _>>=_, _>>_, each, Judged, refuse_at:_when:_, refuse_at:_first:_when:_}
 use Rattle.varint.specs.declared.Refusal.{Refusal}
 use Rattle.varint.specs.Lists.{contains}
 use Rattle.varint.proofs.Lists.{All, If}
@@ -22,9 +22,9 @@ pub any-all : {A : Type 0} (l : List A) → All Any l
 any-all [] = tt
 any-all (a ∷ l) = (tt, any-all l)
 
--- A refusal with one of these numbers, at a place that has the property.
+-- A refusal with one of these numbers, at a place that has the property, and no second number.
 abbrev pub Among : List ℕ → (ℕ → Type 0) → Refusal → Type 0
-Among numbers Q r = T (contains (r .number) numbers) × Q (r .place)
+Among numbers Q r = T (contains (r .number) numbers) × Q (r .place) × (r .first ≡ 0)
 
 pub anything : {E A : Type 0} (o : Outcome E A) → Tells Any Any o
 anything (pass a) = tt
@@ -59,12 +59,19 @@ module _ {E B : Type 0} (R : B → Type 0) (P : E → Type 0) where
 
 -- A rule that is broken, or the rest of what follows it.
 module _ {B : Type 0} (R : B → Type 0) (P : Refusal → Type 0) where
-  pub tells-rule : (n p : ℕ) (b : Bool) (k : Judged B) → (T b → P (record { number = n; place = p })) → (T (not b) → Tells R P k) → Tells R P (refuse n at: p when: b >> k)
+  pub tells-rule : (n p : ℕ) (b : Bool) (k : Judged B) → (T b → P (record { number = n; place = p; first = 0 })) → (T (not b) → Tells R P k) → Tells R P (refuse n at: p when: b >> k)
   unfolding _>>_ refuse_at:_when:_
   tells-rule n p true k h i = h tt
   tells-rule n p false k h i = i tt
 
-pub tells-last : (P : Refusal → Type 0) (n p : ℕ) (b : Bool) → (T b → P (record { number = n; place = p })) → Tells Any P (refuse n at: p when: b)
+  pub tells-first : (n p q : ℕ) (b : Bool) (k : Judged B)
+      → (T b → P (record { number = n; place = p; first = q })) → (T (not b) → Tells R P k)
+      → Tells R P (refuse n at: p first: q when: b >> k)
+  unfolding _>>_ refuse_at:_first:_when:_
+  tells-first n p q true k h i = h tt
+  tells-first n p q false k h i = i tt
+
+pub tells-last : (P : Refusal → Type 0) (n p : ℕ) (b : Bool) → (T b → P (record { number = n; place = p; first = 0 })) → Tells Any P (refuse n at: p when: b)
 unfolding refuse_at:_when:_
 tells-last P n p true h = h tt
 tells-last P n p false h = tt

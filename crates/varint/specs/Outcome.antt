@@ -25,7 +25,8 @@ each step s [] = pass s
 each step s (a ∷ more) = step s a >>= λ t. each step t more
 
 -- "*refused* with a number and a place": a refusal is the struct of the code. Number and place are document 01's terms: a place
--- is a byte offset in the model. To judge is document 01's word for testing a part of a model against its rules ("A graph judges nodes").
+-- is a byte offset in the model. Document 02, Req 08: "Every refusal gains a second number: for 23 the place of the definition already
+-- visible, otherwise 0." To judge is document 01's word for testing a part of a model against its rules ("A graph judges nodes").
 abbrev pub Judged : Type 0 → Type 0
 Judged A = Outcome Refusal A
 
@@ -34,15 +35,25 @@ abbrev pub Rule : Type 0
 Rule = Judged (Unit {0})
 
 abbrev pub refused : {A : Type 0} → ℕ → ℕ → Judged A
-refused n p = fail (record { number = n; place = p })
+refused n p = fail (record { number = n; place = p; first = 0 })
+
+-- With the second number.
+abbrev pub refusedWith : {A : Type 0} → (number place first : ℕ) → Judged A
+refusedWith n p q = fail (record { number = n; place = p; first = q })
 
 -- One rule, as in `refuse 27 at: p when: broken`, with document 01's number.
 infix 20 refuse_at:_when:_
 unfoldable pub refuse_at:_when:_ : ℕ → ℕ → Bool → Rule
-refuse n at: p when: true = fail (record { number = n; place = p })
+refuse n at: p when: true = refused n p
 refuse n at: p when: false = pass tt
+
+-- One rule whose refusal has a second number.
+infix 20 refuse_at:_first:_when:_
+unfoldable pub refuse_at:_first:_when:_ : (number place first : ℕ) → Bool → Rule
+refuse n at: p first: q when: true = refusedWith n p q
+refuse n at: p first: q when: false = pass tt
 
 -- All of this file, for whoever computes with it.
 unfoldable pub Outcome·computes : Unit {0}
-unfolding _>>=_ _>>_ each refuse_at:_when:_
+unfolding _>>=_ _>>_ each refuse_at:_when:_ refuse_at:_first:_when:_
 Outcome·computes = tt

@@ -9,10 +9,12 @@ pub use varints::read_shortest;
 pub use varints::read_varint;
 pub use varints::wide;
 
-// A refusal of document 01: its number, and its place in the model.
+// A refusal of document 01: its number, and its place in the model; of a name defined twice (23) also where it was defined first,
+// else 0.
 pub struct Refusal {
     pub number: u8,
     pub place: usize,
+    pub first: usize,
 }
 
 // A varint that was read: its value, where it ends, and whether its form was the shortest.

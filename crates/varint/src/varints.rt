@@ -44,6 +44,7 @@ fn refused(number: u8, place: usize) -> VarintAnswer
     VarintAnswer::Refused(Refusal {
         number: number,
         place: place,
+        first: 0,
     })
 }
 

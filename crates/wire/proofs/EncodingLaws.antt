@@ -1,7 +1,7 @@
 -- What was read is what is written: the bytes of a field follow from what it says, and those of a message without a gap from its fields.
 use Prim.Native.Nat.{ℕ, zero, suc, _+_, _-_, _*_, _/_, _%_, _≤_, _<_}
 use native.Mathlib.Omega.{arith}
-use mathlib.Core.Path.{_≡_, refl, sym, ap, ap₂, _∙_}
+use mathlib.Core.Path.{_≡_, refl, sym, ap, ap₂, subst, _∙_}
 use mathlib.Core.Bool.{Bool, true, false}
 use mathlib.Core.List.{[], _∷_, _++_, map, flatMap}
 use lib.Dec.{leb, ltb, eqb, nltb→le}
@@ -10,14 +10,15 @@ use Rattle.varint.specs.Outcome.{pass, fail, _>>=_, Judged, refuse_at:_when:_}
 use Rattle.varint.specs.Bytes.{Bytes, part}
 use Rattle.varint.specs.Varint.{shortestVarint}
 use Rattle.varint.specs.Encoding.{encode, Octets}
-use Rattle.wire.specs.Wire.{badTag, tag, sized, value, field, fieldsFrom, fields}
+use Rattle.wire.specs.Wire.{LEN, badTag, tag, sized, value, field, fieldsFrom, fields}
 use Rattle.wire.specs.Message.{text, message}
 use Rattle.wire.specs.Order.{Gapless}
-use Rattle.wire.specs.Encoding.{said, encodedValue, encoded}
+use Rattle.wire.specs.Encoding.{said, encodedValue, contentsAt, encoded}
 use Rattle.wire.specs.declared.Tag.{Tag}
 use Rattle.wire.specs.declared.Field.{Field}
-use Rattle.varint.proofs.Passing.{passed-bind, passed-seq, passed-rule, pass-same}
-use Rattle.varint.proofs.EncodingLaws.{part-join, part-length, varint-written}
+use Rattle.varint.proofs.Passing.{passed-bind, passed-seq, passed-rule, passed-tells, pass-same}
+use Rattle.varint.proofs.EncodingLaws.{part-join, part-length, varint-written, varint-width, width-one}
+use Rattle.wire.proofs.Reading.{AtTag, Follows, value-tells}
 
 -- the field that a size makes
 sized-is : (t : Tag) (end v start size : ℕ) (f : Field) → sized t end v start size ≡ pass f
@@ -36,7 +37,7 @@ module _ (model : Bytes) (octets : Octets model) (end : ℕ) (inside : end ≤ l
       let v = a .0 in
       let b = passed-seq (refuse 3 at: pos when: badTag (v .value)) _ t (a .2) in
       let same : t ≡ record { place = pos; number = v .value / 8; wire = v .value % 8; next = v .next } = sym (pass-same _ t (b .1)) in
-      let w = varint-written model octets pos end inside pos v (a .1) in
+      let w = varint-written model pos end inside octets pos v (a .1) in
       let number : 8 * (v .value / 8) + v .value % 8 ≡ v .value = omega arith in
       rw same (refl, w .0, w .1, rw number (w .2))
 
@@ -60,7 +61,7 @@ module _ (model : Bytes) (octets : Octets model) (end : ℕ) (inside : end ≤ l
       let a = passed-bind (shortestVarint model (t .place) end (t .next)) _ f e in
       let v = a .0 in
       let b = sized-is t end (v .value) (v .next) 0 f (a .2) in
-      let w = varint-written model octets (t .place) end inside (t .next) v (a .1) in
+      let w = varint-written model (t .place) end inside octets (t .next) v (a .1) in
       let far = w .0 in
       let near = w .1 in
       let stop : v .next + 0 ≡ v .next = omega arith in
@@ -74,7 +75,7 @@ module _ (model : Bytes) (octets : Octets model) (end : ℕ) (inside : end ≤ l
       let a = passed-bind (shortestVarint model (t .place) end (t .next)) _ f e in
       let v = a .0 in
       let b = sized-is t end 0 (v .next) (v .value) f (a .2) in
-      let w = varint-written model octets (t .place) end inside (t .next) v (a .1) in
+      let w = varint-written model (t .place) end inside octets (t .next) v (a .1) in
       let far = w .0 in
       let near = b .0 in
       let stop = v .next + v .value in
@@ -155,3 +156,50 @@ pub message-written : (model : Bytes) → Octets model → (f : Field) → f .st
     → text model f ≡ flatMap encoded (map (said model) (message model f .fields))
 unfolding message text fields
 message-written model octets f h inside g = fields-written model octets (f .next) inside (f .next - f .start) (f .start) h g
+
+-- ---- "the bytes of a name follow from place and length (tag of one byte, shortest length)"
+
+module _ (model : Bytes) (end : ℕ) (inside : end ≤ length model) where
+  tag-short : (pos : ℕ) (t : Tag) → tag model end pos ≡ pass t → t .number < 16 → (t .place ≡ pos) × (t .next ≡ pos + 1)
+  unfolding tag
+  tag-short pos t e h =
+      let a = passed-bind (shortestVarint model pos end pos) _ t e in
+      let v = a .0 in
+      let b = passed-seq (refuse 3 at: pos when: badTag (v .value)) _ t (a .2) in
+      let same : record { place = pos; number = v .value / 8; wire = v .value % 8; next = v .next } ≡ t = pass-same _ t (b .1) in
+      let number : v .value / 8 ≡ t .number = ap (λ (x : Tag). x .number) same in
+      let next : v .next ≡ t .next = ap (λ (x : Tag). x .next) same in
+      let width = varint-width model pos end inside pos v (a .1) in
+      let one = width-one (v .value) (omega arith) in
+      (ap (λ (x : Tag). x .place) (sym same), omega arith)
+
+  length-read : (t : Tag) (f : Field) → t .wire ≡ LEN → value model t end ≡ pass f
+      → (shortestVarint model (t .place) end (t .next) >>= λ v. sized t end 0 (v .next) (v .value)) ≡ pass f
+  unfolding value
+  length-read t f k e = subst Read k e
+    where
+      Read : ℕ → Type 0
+      Read wire = _≡_ {A = Judged Field} (elim (eqb wire 0) [
+        | true ↦ shortestVarint model (t .place) end (t .next) >>= λ v. sized t end (v .value) (v .next) 0
+        | false ↦ elim (eqb wire 2) [
+          | true ↦ shortestVarint model (t .place) end (t .next) >>= λ v. sized t end 0 (v .next) (v .value)
+          | false ↦ elim (eqb wire 1) [ true ↦ sized t end 0 (t .next) 8 | false ↦ sized t end 0 (t .next) 4 ]
+        ]
+      ]) (pass f)
+
+  pub contents-there : (pos : ℕ) (f : Field) → field model end pos ≡ pass f → f .number < 16 → f .wire ≡ LEN
+      → f .start ≡ contentsAt (f .place) (f .next - f .start)
+  unfolding field contentsAt
+  contents-there pos f e h k =
+      let a = passed-bind (tag model end pos) _ f e in
+      let t = a .0 in
+      let on = passed-tells (Follows t end) (AtTag (t .place)) (value model t end) f (value-tells model t end) (a .2) in
+      let short = tag-short pos t (a .1) (rw (on .1) at h) in
+      let b = passed-bind (shortestVarint model (t .place) end (t .next)) _ f (length-read t f (sym (on .5) ∙ k) (a .2)) in
+      let v = b .0 in
+      let width = varint-width model (t .place) end inside (t .next) v (b .1) in
+      let made = sized-is t end 0 (v .next) (v .value) f (b .2) .1 in
+      let start : f .start ≡ v .next = ap (λ (x : Field). x .start) made in
+      let next : f .next ≡ v .next + v .value = ap (λ (x : Field). x .next) made in
+      let size : f .next - f .start ≡ v .value = omega arith in
+      rw size (omega arith)

@@ -26,22 +26,23 @@ AtTag place = Among Wire·refusals (λ p. p ≡ place)
 abbrev pub Fits : (pos end : ℕ) → Field → Type 0
 Fits pos end f = (pos ≤ f .place) × (f .place < f .start) × (f .start ≤ f .next) × (f .next ≤ end)
 
--- the same, with the place and the number that its tag gave it
+-- the same, with the place, the number and the wire type that its tag gave it
 abbrev pub Follows : Tag → (end : ℕ) → Field → Type 0
-Follows t end f = (f .place ≡ t .place) × (f .number ≡ t .number) × (t .next ≤ f .start) × (f .start ≤ f .next) × (f .next ≤ end)
+Follows t end f =
+    (f .place ≡ t .place) × (f .number ≡ t .number) × (t .next ≤ f .start) × (f .start ≤ f .next) × (f .next ≤ end) × (f .wire ≡ t .wire)
 
 sized-tells : (t : Tag) (end v start size : ℕ) → t .next ≤ start → Tells (Follows t end) (AtTag (t .place)) (sized t end v start size)
 unfolding sized contains
 sized-tells t end v start size h =
-    tells-rule (Follows t end) (AtTag (t .place)) 1 _ _ _ (λ g. (tt, refl))
-    (λ g. let k = nltb→le end (start + size) g in (refl, refl, h, omega arith, k))
+    tells-rule (Follows t end) (AtTag (t .place)) 1 _ _ _ (λ g. (tt, refl, refl))
+    (λ g. let k = nltb→le end (start + size) g in (refl, refl, h, omega arith, k, refl))
 
 module _ (model : Bytes) where
   pub varint-tells : (left place end pos : ℕ) → Tells (λ v. pos < v .next) (AtTag place) (varintFrom model left place end pos)
   unfolding varintFrom contains
-  varint-tells zero place end pos = (tt, refl)
+  varint-tells zero place end pos = (tt, refl, refl)
   varint-tells (suc left) place end pos =
-      tells-rule _ _ 1 _ _ _ (λ h. (tt, refl)) (λ h. tells-rule _ _ 2 _ _ _ (λ h. (tt, refl)) (λ h.
+      tells-rule _ _ 1 _ _ _ (λ h. (tt, refl, refl)) (λ h. tells-rule _ _ 2 _ _ _ (λ h. (tt, refl, refl)) (λ h.
       tells-if _ _ (ltb (byte model pos) 128) _ _ (λ h. omega arith) (λ h.
       tells-bind (λ (v : Varint). pos + 1 < v .next) (λ (v : Varint). pos < v .next) (AtTag place) _ _ (varint-tells left place end (pos + 1)) (λ v h. omega arith))))
 
@@ -49,11 +50,11 @@ module _ (model : Bytes) where
   unfolding shortestVarint varint contains
   shortest-tells place end pos =
       tells-bind (λ (v : Varint). pos < v .next) (λ (v : Varint). pos < v .next) (AtTag place) _ _ (varint-tells 10 place end pos)
-      (λ v h. tells-rule _ _ 9 _ _ _ (λ k. (tt, refl)) (λ k. h))
+      (λ v h. tells-rule _ _ 9 _ _ _ (λ k. (tt, refl, refl)) (λ k. h))
 
   pub tag-tells : (end pos : ℕ) → Tells (λ t. (t .place ≡ pos) × (pos < t .next)) (AtTag pos) (tag model end pos)
   unfolding tag contains
-  tag-tells end pos = tells-bind (λ v. pos < v .next) _ _ _ _ (shortest-tells pos end pos) (λ v h. tells-rule _ _ 3 _ _ _ (λ k. (tt, refl)) (λ k. (refl, h)))
+  tag-tells end pos = tells-bind (λ v. pos < v .next) _ _ _ _ (shortest-tells pos end pos) (λ v h. tells-rule _ _ 3 _ _ _ (λ k. (tt, refl, refl)) (λ k. (refl, h)))
 
   pub value-tells : (t : Tag) (end : ℕ) → Tells (Follows t end) (AtTag (t .place)) (value model t end)
   unfolding value
@@ -76,7 +77,7 @@ module _ (model : Bytes) where
     where
       go : (t : Tag) → (t .place ≡ pos) × (pos < t .next) → (o : Judged Field) → Tells (Follows t end) (AtTag (t .place)) o → Tells (Fits pos end) (AtTag pos) o
       go t h (pass f) k = (omega arith, omega arith, omega arith, omega arith)
-      go t h (fail r) k = (k .0, omega arith)
+      go t h (fail r) k = (k .0, omega arith, k .2)
 
   -- a field lies where it was read
   pub field-placed : (end pos : ℕ) → Tells (λ (f : Field). f .place ≡ pos) (AtTag pos) (field model end pos)
@@ -87,4 +88,4 @@ module _ (model : Bytes) where
     where
       go : (t : Tag) → (t .place ≡ pos) × (pos < t .next) → (o : Judged Field) → Tells (Follows t end) (AtTag (t .place)) o → Tells (λ (f : Field). f .place ≡ pos) (AtTag pos) o
       go t h (pass f) k = omega arith
-      go t h (fail r) k = (k .0, omega arith)
+      go t h (fail r) k = (k .0, omega arith, k .2)

@@ -27,5 +27,9 @@ encodedValue wire value contents = elim (eqb wire VARINT) [
   | false ↦ elim (eqb wire LEN) [ true ↦ encode (length contents) ++ contents | false ↦ contents ]
 ]
 
+-- Where the contents of a field begin whose tag has one byte: after it and "a shortest length".
+unfoldable pub contentsAt : (place len : ℕ) → ℕ
+contentsAt place len = place + 1 + length (encode len)
+
 unfoldable pub encoded : Said → Bytes
 encoded f = encode (8 * f .number + f .wire) ++ encodedValue (f .wire) (f .value) (f .contents)

@@ -82,6 +82,7 @@ fn past_end(place: usize) -> FieldAnswer
     FieldAnswer::Refused(Refusal {
         number: Refusal::PAST_END,
         place: place,
+        first: 0,
     })
 }
 
@@ -114,6 +115,7 @@ impl Cursor {
                     return TagAnswer::Refused(Refusal {
                         number: Refusal::BAD_TAG,
                         place: at,
+                        first: 0,
                     });
                 }
                 TagAnswer::Read(Tag {
