@@ -150,20 +150,20 @@ module _ {model : Bytes} {kind : Kind} {m : Field} (w : Walked model kind m) (n 
   unfolding allOf message
   found = keep-exactly (λ f. eqb n (f .number)) g (fields model (m .next) (m .start)) .0 here
 
-  numbered : g .number ≡ n
-  numbered = sym (eqb→eq n (g .number) (found .1))
+  pub walked-number : g .number ≡ n
+  walked-number = sym (eqb→eq n (g .number) (found .1))
 
   opens : Opens model kind (w .passed .0) g
   opens = all-member (Opens model kind (w .passed .0)) (fields model (m .next) (m .start)) (walked-opens model kind (w .passed .0) (m .next) (m .start) (w .passed .1)) (found .0)
 
   -- it has the wire type of its row
   pub walked-fits : T (fits (g .wire) (rowOf kind n))
-  walked-fits = rw numbered at (opens .0)
+  walked-fits = rw walked-number at (opens .0)
 
   -- and holds a message that was walked, where its row opens it
   pub walked-inner : {k : Kind} → kindOf (rowOf kind n) ≡ some k → Walked model k g
   walked-inner {k} e =
-      let sound : If (Sound model (w .passed .0) g) (kindOf (rowOf kind n)) = rw numbered at (opens .1) in
+      let sound : If (Sound model (w .passed .0) g) (kindOf (rowOf kind n)) = rw walked-number at (opens .1) in
       let inner : If (Sound model (w .passed .0) g) (some k) = rw e at sound in
       let last = field-fits model m (found .0) .3 in
       let size = w .inside in

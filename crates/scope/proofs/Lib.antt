@@ -1,3 +1,4 @@
+pub mod RecordLaws
 pub mod ScopeLaws
 pub mod ClearLaws
 pub mod SplitLaws

@@ -1,56 +1,55 @@
 -- A scope of which extra cells remember names.
 use Prim.Native.Nat.{ℕ, zero, suc, _-_, _≤_, _<_}
 use native.Mathlib.Omega.{arith}
-use mathlib.Core.Path.{_≡_, refl, sym, ap, subst, _∙_}
-use mathlib.Core.Bool.{Bool, _||_}
-use mathlib.Core.List.{List}
-use lib.ListN.{length, drop, getD, set, replicate}
-use lib.Seq.{getD-set-same, getD-set-other}
-use Rattle.varint.specs.Bytes.{Bytes, same, member}
+use mathlib.Core.Path.{_≡_, refl, sym, ap, ap₂, subst, _∙_}
+use mathlib.Core.List.{List, _∷_}
+use lib.ListN.{length, drop, replicate}
+use Rattle.varint.specs.Bytes.{Bytes}
 use Rattle.wire.specs.Message.{text}
 use Rattle.wire.specs.declared.Field.{Field}
-use Rattle.index.specs.Table.{newest, namesIn, seek, since, Indexed}
+use Rattle.index.specs.Table.{newest, namesIn, seek, Indexed}
 use Rattle.index.specs.Memory.{known, tableOf, Remembered}
 use Rattle.index.specs.declared.Found.{Found}
 use Rattle.index.specs.Listing.{Held}
 use Rattle.index.specs.declared.listings.Listing.{Listing}
-use Rattle.index.proofs.UseLaws.{indexed-none, seek-member}
+use Rattle.index.proofs.UseLaws.{indexed-none}
 use Rattle.index.proofs.ListingLaws.{held-all, held-fewer, held-then}
 use Rattle.headers.proofs.ListedLaws.{imported-held}
 use Rattle.rules.specs.Names.{Name, nameIn}
-use Rattle.rules.specs.Walk.{visible}
-use Rattle.scope.specs.Scope.{nameAt, scopeIn}
+use Rattle.rules.specs.Verdict.{room}
+use Rattle.scope.specs.Scope.{stored, recorded, scopeIn, bytesIn, Direct}
 use Rattle.scope.specs.Recall.{Recalls, Recalling, RememberedOn, AddedOn, Recalled, Minded, Minds}
 use Rattle.scope.specs.declared.remembered.Index.{Index}
+use Rattle.scope.proofs.RecordLaws.{recorded-other, recorded-same, name-direct}
 use Rattle.scope.proofs.ScopeLaws.{Searching}
 
 -- what is remembered is the scope
-recalled : {model : Bytes} {seed : ℕ} {cells extra : List ℕ} → Recalls model seed cells extra → (x : Bytes) (i : ℕ) → i ≤ known extra
-    → member x (namesIn model (tableOf extra) i) ≡ visible x (scopeIn model cells i)
-unfolding member visible namesIn scopeIn
-recalled m x zero h = refl
-recalled {model} {seed} {cells} {extra} m x (suc i) h =
-    ap (λ (y : Bytes). same x y || member x (namesIn model (tableOf extra) i)) (m .memory .same i (omega arith))
-    ∙ ap (λ (t : Bool). same x (nameAt model (getD cells i 0) .bytes) || t) (recalled m x i (omega arith))
+recalled : {model : Bytes} {seed : ℕ} {cells extra : List ℕ} → Recalls model seed cells extra → (i : ℕ) → i ≤ known extra
+    → namesIn model (tableOf extra) i ≡ bytesIn model cells i
+unfolding namesIn bytesIn scopeIn
+recalled m zero h = refl
+recalled {model} {seed} {cells} {extra} m (suc i) h =
+    ap₂ (λ (x : Bytes) (l : List Bytes). x ∷ l) (m .memory .same i (omega arith)) (recalled m i (omega arith))
 
 -- the search after the names that are not remembered: r is what is recalled
 pub recall-ends : {model : Bytes} {seed : ℕ} {cells extra : List ℕ} → Recalls model seed cells extra → {used : ℕ} {name : Bytes} {i : ℕ}
-    → Searching model cells used name i → i ≤ known extra → {r : Found} → r ≡ seek name (namesIn model (tableOf extra) i) → {t : Bool} → t ≡ since 0 r
-    → t ≡ visible name (scopeIn model cells used)
-recall-ends {model} {seed} {cells} {extra} m {used} {name} {i} q h e f =
-    f ∙ ap (since 0) e ∙ seek-member name (namesIn model (tableOf extra) i) ∙ recalled m name i h ∙ q .rest
+    → Searching model cells used name i → i ≤ known extra → {r : Found} → r ≡ seek name (namesIn model (tableOf extra) i)
+    → r ≡ seek name (bytesIn model cells used)
+recall-ends m {used} {name} {i} q h e = e ∙ ap (seek name) (recalled m i h) ∙ q .rest
 
--- a name was stored and remembered, as far as the model has it
+-- a name was stored and remembered
 pub recall-more : {model : Bytes} {seed : ℕ} {cells extra later : List ℕ}
-    → Recalls model seed cells extra → (used : ℕ) → used < length cells → (f : Field) → nameAt model (f .place) ≡ nameIn model f
+    → Recalls model seed cells extra → (used : ℕ) → used < room (length cells) → (f : Field) → Direct model f
     → Remembered model seed used (text model f) extra later
-    → Recalls model seed (set cells used (f .place)) later
+    → Recalls model seed (stored cells used (f .place) (f .next - f .start)) later
 unfolding nameIn
-recall-more {model} {seed} {cells} m used h f e r = record {
-  memory = r .memory (λ i. nameAt model (getD cells i 0) .bytes) (λ i. nameAt model (getD (set cells used (f .place)) i 0) .bytes) (m .memory)
-      (λ i l. ap (λ (n : ℕ). nameAt model n .bytes) (getD-set-other cells used i (f .place) 0 (λ q. omega arith)))
-      (ap (λ (n : ℕ). nameAt model n .bytes) (getD-set-same cells used (f .place) 0 h) ∙ ap (λ (n : Name). n .bytes) e);
-}
+recall-more {model} {seed} {cells} m used h f d r =
+    let len = f .next - f .start in
+    record {
+      memory = r .memory (λ i. recorded model cells i .bytes) (λ i. recorded model (stored cells used (f .place) len) i .bytes) (m .memory)
+          (λ i l. ap (λ (n : Name). n .bytes) (recorded-other model cells used (f .place) len i l))
+          (ap (λ (n : Name). n .bytes) (recorded-same model cells used (f .place) len h ∙ name-direct model f d));
+    }
 
 -- zeros remember nothing
 pub recalls-none : (model : Bytes) (seed : ℕ) (cells : List ℕ) (n : ℕ) → Recalls model seed cells (replicate n 0)
@@ -71,12 +70,12 @@ module _ {model : Bytes} {ix : Index} where
   recalled-then m n = record { recalls = n .recalls; size = n .size ∙ m .size; lists = n .lists ∙ m .lists }
 
   -- a name was stored and remembered
-  pub recalled-more : {cells extra later : List ℕ} → Recalling model ix cells extra → (used : ℕ) → used < length cells → (f : Field)
-      → nameAt model (f .place) ≡ nameIn model f → RememberedOn model ix used f extra later
-      → Recalled model ix (set cells used (f .place)) extra later
-  recalled-more {cells} {extra} {later} m used h f e r =
-      let s = recall-more (m .scope) used h f e (r .names) in
-      record {
+  pub recalled-more : {cells now′ extra later : List ℕ} → Recalling model ix cells extra → (used : ℕ) → used < room (length cells) → (f : Field)
+      → Direct model f → now′ ≡ stored cells used (f .place) (f .next - f .start) → RememberedOn model ix used f extra later
+      → Recalled model ix now′ extra later
+  recalled-more {cells} {now′} {extra} {later} m used h f d e r =
+      let s = recall-more (m .scope) used h f d (r .names) in
+      rw e (record {
         recalls = record {
           both = record {
             fits = omega (arith, m .both .fits, r .size);
@@ -87,7 +86,7 @@ module _ {model : Bytes} {ix : Index} where
         };
         size = r .size;
         lists = r .lists;
-      }
+      })
 
   -- ---- with lists
 
@@ -136,8 +135,3 @@ module _ {model : Bytes} {ix : Index} where
 
   pub minds-higher : {top more : ℕ} {cells extra : List ℕ} → Minds model ix top cells extra → top ≤ more → more ≤ known (drop (ix .split) extra) → Minds model ix more cells extra
   minds-higher m h k = record { recalls = m .recalls; imported = m .imported; above = (let a = m .above in omega arith); fits = k }
-
--- the name in a field, as the cells have it
-pub text-there : (model : Bytes) (f : Field) → nameAt model (f .place) ≡ nameIn model f → {x : Bytes} → x ≡ text model f → x ≡ nameAt model (f .place) .bytes
-unfolding nameIn
-text-there model f e t = t ∙ sym (ap (λ (n : Name). n .bytes) e)

@@ -3,7 +3,7 @@
 use Prim.Native.Nat.{ℕ, _≤_}
 use mathlib.Core.Path.{_≡_}
 use mathlib.Core.List.{List}
-use lib.ListN.{length, take, drop, getD}
+use lib.ListN.{length, take, drop}
 use Rattle.wire.specs.declared.Field.{Field}
 use Rattle.varint.specs.Bytes.{Bytes}
 use Rattle.wire.specs.Message.{text}
@@ -13,12 +13,12 @@ use Rattle.index.specs.Listing.{Held, Added}
 use Rattle.index.specs.declared.listings.Listing.{Listing}
 use Rattle.headers.specs.Imports.{importsIn}
 use Rattle.headers.specs.Imported.{Imported}
-use Rattle.scope.specs.Scope.{nameAt}
+use Rattle.scope.specs.Scope.{recorded}
 use Rattle.scope.specs.declared.remembered.Index.{Index}
 
 -- Cells that remember names of the scope in `cells`: by place, and of no number of names in use. Where there are none, nothing is remembered.
 pub record Recalls (model : Bytes) (seed : ℕ) (cells names : List ℕ) : Type 0 where
-  pub memory : Remembers model seed (λ i. nameAt model (getD cells i 0) .bytes) names
+  pub memory : Remembers model seed (λ i. recorded model cells i .bytes) names
 
 -- Both parts of the extra cells are indexed.
 pub record Remembering (model : Bytes) (ix : Index) (extra : List ℕ) : Type 0 where

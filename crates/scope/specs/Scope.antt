@@ -1,35 +1,64 @@
--- How lent cells hold what is visible: a cell is the place of the field that holds a name. No rule speaks of this; contracts of
--- the code do.
-use Prim.Native.Nat.{ℕ, zero, suc, _+_, _^_, _≤_, _<_}
+-- How lent cells hold what is visible: a record is the place of the field that holds a name, and the length of the name. No rule speaks
+-- of this; contracts of the code do.
+use Prim.Native.Nat.{ℕ, zero, suc, _+_, _-_, _*_, _^_, _≤_, _<_}
 use mathlib.Core.Path.{_≡_}
-use mathlib.Core.Bool.{Bool, true}
-use mathlib.Core.List.{List, [], _∷_}
-use lib.ListN.{length, take, getD}
+use mathlib.Core.Bool.{Bool, true, false}
+use mathlib.Core.List.{List, [], _∷_, map}
+use lib.ListN.{length, take, getD, set}
+use lib.Dec.{leb}
 use Rattle.varint.specs.Outcome.{pass, fail, Judged}
 use Rattle.wire.specs.declared.Field.{Field}
-use Rattle.varint.specs.Bytes.{Bytes, member}
-use Rattle.wire.specs.Wire.{field}
-use Rattle.wire.specs.Message.{text, message}
+use Rattle.varint.specs.Bytes.{Bytes, part, member}
+use Rattle.wire.specs.Message.{message}
+use Rattle.wire.specs.Encoding.{contentsAt}
+use Rattle.schema.specs.declared.Kind.{Kind}
+use Rattle.schema.specs.Opened.{Walked}
+use Rattle.index.specs.declared.Found.{Found}
+use Rattle.index.specs.declared.Found.the-variants as found
 use Rattle.rules.specs.Names.{Name, inputsOf}
 use Rattle.rules.specs.Walk.{Walk, visible}
+use Rattle.rules.specs.Verdict.{WIDTH}
 use Rattle.values.specs.declared.Ruling.{Ruling}
 use Rattle.values.specs.declared.Ruling.the-variants as ruling
 use Rattle.scope.specs.declared.scopes.Progress.{Progress}
 use Rattle.scope.specs.declared.scopes.Step.{Step}
 use Rattle.scope.specs.declared.scopes.Step.the-variants as step
 
+-- "Each scope record now holds place and length": those of record i. A cell that is not there reads as 0.
+unfoldable pub placeIn : (cells : List ℕ) → (i : ℕ) → ℕ
+placeIn cells i = getD cells (WIDTH * i) 0
+
+unfoldable pub lengthIn : (cells : List ℕ) → (i : ℕ) → ℕ
+lengthIn cells i = getD cells (WIDTH * i + 1) 0
+
+-- The cells with record i written.
+unfoldable pub stored : (cells : List ℕ) → (i place len : ℕ) → List ℕ
+stored cells i place len = set (set cells (WIDTH * i) place) (WIDTH * i + 1) len
+
+-- The place in the record that was found.
+unfoldable pub firstIn : (cells : List ℕ) → Found → ℕ
+firstIn cells (found.At i) = placeIn cells i
+firstIn cells found.Missing = 0
+
 module _ (model : Bytes) where
-  -- The name in the field at a place; where no field can be read, the empty name.
-  unfoldable pub nameAt : (place : ℕ) → Name
-  nameAt p = record {
-    bytes = elim (field model (length model) p) [ pass f ↦ text model f | fail r ↦ [] ];
+  -- The name of a record: so many bytes after the tag and the length; where the model ends before that, the empty name.
+  unfoldable pub nameAt : (place len : ℕ) → Name
+  nameAt p n = record {
+    bytes = elim (leb (contentsAt p n + n) (length model)) [ true ↦ part (contentsAt p n) n model | false ↦ [] ];
     place = p;
   }
 
-  -- The names that the first `used` cells hold, the newest first. A cell that is not there reads as 0.
+  unfoldable pub recorded : (cells : List ℕ) → (i : ℕ) → Name
+  recorded cells i = nameAt (placeIn cells i) (lengthIn cells i)
+
+  -- The names of the first `used` records, the newest first.
   unfoldable pub scopeIn : (cells : List ℕ) → (used : ℕ) → List Name
   scopeIn cells zero = []
-  scopeIn cells (suc n) = nameAt (getD cells n 0) ∷ scopeIn cells n
+  scopeIn cells (suc n) = recorded cells n ∷ scopeIn cells n
+
+  -- Their bytes, which are searched.
+  unfoldable pub bytesIn : (cells : List ℕ) → (used : ℕ) → List Bytes
+  bytesIn cells used = map (λ n. n .bytes) (scopeIn cells used)
 
   -- The walk that has come so far, with these cells.
   unfoldable pub walkIn : (cells : List ℕ) → Progress → Walk
@@ -54,11 +83,17 @@ unfoldable pub grows : Progress → Step → Type 0
 grows p (step.Went q) = p .used ≤ q .used
 grows p (step.Refused r) = Unit {0}
 
--- The walk may go into a field: the model is short enough for a cell to hold any place of it, the field lies in it, and no more nodes
--- have been counted than bytes stand before the field.
-pub record Enters (model : Bytes) (p : Progress) (f : Field) : Type 0 where
+-- A name that a record can hold: it lies in the model, and its bytes are found by place and length.
+pub record Direct (model : Bytes) (name : Field) : Type 0 where
+  pub inside : name .next ≤ length model
+  pub ends : name .start ≤ name .next
+  pub there : name .start ≡ contentsAt (name .place) (name .next - name .start)
+
+-- The walk may go into a field: the model is short enough for a cell to hold any place of it, the first walk passed the field's message,
+-- and no more nodes have been counted than bytes stand before the field.
+pub record Enters (model : Bytes) (kind : Kind) (p : Progress) (f : Field) : Type 0 where
   pub short : length model < 2 ^ 32
-  pub inside : f .next ≤ length model
+  pub walked : Walked model kind f
   pub tagged : f .place < f .start
   pub ends : f .start ≤ f .next
   pub few : p .nodes ≤ f .place
@@ -68,10 +103,10 @@ unfoldable pub counted : Field → Progress → Step → Type 0
 counted f p (step.Went q) = q .nodes + f .place ≤ p .nodes + f .next
 counted f p (step.Refused r) = Unit {0}
 
--- What stays of the cells: their number, and those in use.
+-- What stays of the cells: their number, and the records in use.
 pub record Keeps (used : ℕ) (before after : List ℕ) : Type 0 where
   pub size : length after ≡ length before
-  pub below : take used after ≡ take used before
+  pub below : take (WIDTH * used) after ≡ take (WIDTH * used) before
 
 -- In the main graph the oldest `inputs` names of the scope are those of its inputs.
 pub record Defaultable (model : Bytes) (main : Bool) (graph : Field) (cells : List ℕ) (inputs : ℕ) : Type 0 where

@@ -12,5 +12,6 @@ pub use scopes::Step;
 pub use scopes::clear;
 pub use scopes::clear_both;
 pub use scopes::leaving;
+pub use scopes::room;
 pub use scopes::standing;
 pub use scopes::stopped;

@@ -1,24 +1,28 @@
-// The scope of the second walk, in cells that the caller lends: a cell holds the place of the field that holds a name, and the
-// first `used` cells are in use. What they mean stands in specs/Scope.antt.
+// The scope of the second walk, in cells that the caller lends: a record holds the place of the field that holds a name and the length
+// of the name, and the first `used` records are in use. What they mean stands in specs/Scope.antt.
 ghost use mathlib.Core.Path.{_≡_};
-ghost use Prim.Native.Nat.{ℕ, _≤_, _<_, max};
+ghost use Prim.Native.Nat.{ℕ, _^_, _≤_, _<_, max};
 ghost use mathlib.Core.Bool.{true};
 ghost use mathlib.Core.List.{List};
 ghost use lib.ListN.{length, getD, replicate};
-ghost use Rattle.varint.specs.Outcome.{refused};
+ghost use Rattle.varint.specs.Outcome.{refused, refusedWith};
 ghost use Rattle.varint.specs.Bytes.{Bytes};
-ghost use Rattle.scope.specs.Scope.{nameAt, stepSays, standing, left, grows};
+ghost use Rattle.varint.specs.Encoding.{encode};
+ghost use Rattle.wire.specs.Encoding.{contentsAt};
+ghost use Rattle.rules.specs.Verdict.{room};
+ghost use Rattle.scope.specs.Scope.{placeIn, lengthIn, stored, firstIn, stepSays, standing, left, grows};
 ghost use Rattle.scope.specs.declared.scopes.Progress.{Progress};
+use index::Found;
 use values::Ruling;
 use varint::Refusal;
-use varint::between;
-use wire::Cursor;
-use wire::FieldAnswer;
+
+// How many cells a record takes.
+const WIDTH: usize = 2;
 
 // How many cells a page of memory has.
 const PAGE: usize = 1024;
 
-// How far the second walk has come: how many cells are used, the nodes so far, and the most names visible together so far.
+// How far the second walk has come: how many records are used, the nodes so far, and the most names visible together so far.
 pub struct Progress {
     pub used: usize,
     pub nodes: u64,
@@ -31,27 +35,78 @@ pub enum Step {
     Refused(Refusal),
 }
 
-// The contents of the field at a place, read where it stands; none where there is no field.
-pub(crate) fn name_at(model: &[u8], place: usize) -> &[u8]
-    ensures { λ r. ⌜ now r ≡ nameAt (now (model .entry)) place .bytes ⌝ }
+// How many names so many cells hold.
+pub fn room(cells: usize) -> usize
+    ensures { λ r. ⌜ r ≡ room cells ⌝ }
 {
-    let here = Cursor {
-        at: place,
-        end: model.len(),
-    };
-    let FieldAnswer::Read(field, _) = here.field(model) else {
-        return between(model, 0, 0);
-    };
-    field.text(model)
+    cells / WIDTH
 }
 
-pub(crate) fn cell_at(cells: &[u32], i: usize) -> usize
-    ensures { λ r. ⌜ r ≡ getD (now (cells .entry)) i 0 ⌝ }
+fn cell_at(cells: &[u32], i: usize) -> usize
+    ensures { λ r. ⌜ (r ≡ getD (now (cells .entry)) i 0) × (r < 2 ^ 32) ⌝ }
 {
     if i < cells.len() {
         return cells[i] as usize;
     }
     0
+}
+
+// The place in a record.
+pub(crate) fn place_at(cells: &[u32], i: usize) -> usize
+    ensures { λ r. ⌜ (r ≡ placeIn (now (cells .entry)) i) × (r < 2 ^ 32) ⌝ }
+{
+    if cells.len() <= i {
+        return 0;
+    }
+    cell_at(cells, WIDTH * i)
+}
+
+// The length in a record.
+pub(crate) fn length_at(cells: &[u32], i: usize) -> usize
+    ensures { λ r. ⌜ (r ≡ lengthIn (now (cells .entry)) i) × (r < 2 ^ 32) ⌝ }
+{
+    if cells.len() <= i {
+        return 0;
+    }
+    cell_at(cells, WIDTH * i + 1)
+}
+
+pub(crate) fn store(cells: &mut [u32], i: usize, place: usize, len: usize)
+    requires { ⌜ i < room (length (now cells)) ⌝ }
+    requires { ⌜ (place < 2 ^ 32) × (len < 2 ^ 32) ⌝ }
+    ensures { λ _. ⌜ now (cells .exit) ≡ stored (now (cells .entry)) i place len ⌝ }
+{
+    let at = WIDTH * i;
+    cells[at] = place as u32;
+    cells[at + 1] = len as u32;
+}
+
+// How many bytes a length takes in its shortest form.
+fn width_of(n: usize) -> usize
+    requires { ⌜ n < 2 ^ 32 ⌝ }
+    ensures { λ r. ⌜ (r ≡ length (encode n)) × (r ≤ 5) ⌝ }
+{
+    if n < 128 {
+        return 1;
+    }
+    if n < 16_384 {
+        return 2;
+    }
+    if n < 2_097_152 {
+        return 3;
+    }
+    if n < 268_435_456 {
+        return 4;
+    }
+    5
+}
+
+// Where the name of a record begins: after a tag of one byte and its length.
+pub(crate) fn contents_at(place: usize, len: usize) -> usize
+    requires { ⌜ (place < 2 ^ 32) × (len < 2 ^ 32) ⌝ }
+    ensures { λ r. ⌜ (r ≡ contentsAt place len) × (r < 2 ^ 33) ⌝ }
+{
+    place + 1 + width_of(len)
 }
 
 fn still_zero(zero: bool, cell: u32) -> bool
@@ -143,6 +198,22 @@ pub fn stopped(number: u8, place: usize) -> Step
         number: number,
         place: place,
         first: 0,
+    })
+}
+
+// A name that was found among the visible ones.
+pub(crate) fn repeated(cells: &[u32], place: usize, found: Found) -> Step
+    ensures answer { λ r. ⌜ ((model : Bytes) (later : List ℕ) → stepSays model later r ≡ refusedWith 23 place (firstIn (now (cells .entry)) found)) ⌝ }
+    ensures grown { λ r. ⌜ ((p : Progress) → grows p r) ⌝ }
+{
+    let first = match found {
+        Found::At(i) => place_at(cells, i),
+        Found::Missing => 0,
+    };
+    Step::Refused(Refusal {
+        number: Ruling::ALREADY_VISIBLE,
+        place: place,
+        first: first,
     })
 }
 

@@ -115,6 +115,14 @@ module _ (s : Bytes) (place end : ℕ) (inside : end ≤ length s) where
 
 -- ---- how many bytes a number takes
 
+pub width-last : (left n : ℕ) → n < 128 → length (encodeFrom (suc left) n) ≡ 1
+unfolding encodeFrom
+width-last left n h = rw (lt-ltb n 128 h, encodeFrom) refl
+
+pub width-more : (left n : ℕ) → 128 ≤ n → length (encodeFrom (suc left) n) ≡ suc (length (encodeFrom left (n / 128)))
+unfolding encodeFrom
+width-more left n h = rw (le-ltb n 128 h, encodeFrom) refl
+
 pub width-one : (n : ℕ) → n < 128 → length (encode n) ≡ 1
-unfolding encode encodeFrom
-width-one n h = rw (lt-ltb n 128 h, encodeFrom) refl
+unfolding encode
+width-one n h = width-last 9 n h

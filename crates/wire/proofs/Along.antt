@@ -3,7 +3,7 @@ use Prim.Native.Nat.{ℕ, zero, suc, _+_, _-_, _≤_, _<_}
 use native.Mathlib.Omega.{arith}
 use mathlib.Core.Path.{_≡_, refl, sym, ap, _∙_}
 use mathlib.Core.Bool.{Bool, true, false}
-use mathlib.Core.List.{List, [], _∷_}
+use mathlib.Core.List.{List, [], _∷_, List·Memᴰ, List·Memᴰ·head, List·Memᴰ·tail}
 use mathlib.Core.Option.{Option, none, some}
 use lib.Dec.{leb, eqb}
 use Rattle.varint.specs.Outcome.{pass, fail, _>>=_, each, Judged}
@@ -195,6 +195,13 @@ module _ {S : Type 0} {s : Bytes} {number end : ℕ} {step : S → Field → Jud
       -- the field was read where it lies
       pub along-read : field s end (f .place) ≡ pass f
       along-read = went .read
+
+      -- it is one of those that were left, as are those after it
+      pub along-here : List·Memᴰ f (allFrom s number end (c .at))
+      along-here = rw (went .list) (List·Memᴰ·head refl)
+
+      pub along-later : {g : Field} → List·Memᴰ g (allFrom s number end (next .at)) → List·Memᴰ g (allFrom s number end (c .at))
+      along-later m = rw (went .list) (List·Memᴰ·tail m)
 
       pub along-placed : f .place < end
       along-placed = let short = went .placed in let near = went .inside in omega arith

@@ -1,23 +1,17 @@
-use mathlib.Core.Path.{sym}
-use lib.Seq.{length-take-le}
+use mathlib.Core.Path.{ap, _∙_}
+use Rattle.index.specs.Table.{since}
+use Rattle.scope.proofs.ScopeLaws.{found-visible}
 use borrow.Author.Needs.{needs}
 use Rattle.scope.proofs.remembered.sees.Statement.{statement}
 use Rattle.scope.proofs.remembered.sees.Tie as tie
 
-slice-aggregate-sees-in : tie.Need-slice-aggregate-sees-in
-slice-aggregate-sees-in c =
-    let entry = c .before .before .before .before .before in
-    sym (length-take-le _ _ (entry .pre .both .fits))
-
-sees-in-requires : tie.Need-sees-in-requires
-sees-in-requires c κs =
-    let entry = c .before .before .before .before .before in
-    entry .pre .scope
+returns : tie.Need-returns
+returns c = c .since .ensures ∙ ap (since 0) (c .before .find .ensures) ∙ found-visible _ _ _ _
 
 pub sees-spec : {M : Type 1} → statement M
 sees-spec =
     tie.close
     (tie.spec
-    slice-aggregate-sees-in
-    sees-in-requires
-    (λ c. search needs))
+    (λ c κs. search needs)
+    (λ c κs. search needs)
+    returns)

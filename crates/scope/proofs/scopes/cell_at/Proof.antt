@@ -1,5 +1,5 @@
 use native.Mathlib.Omega.{arith}
-use mathlib.Core.Path.{sym}
+use mathlib.Core.Path.{refl, sym}
 use lib.ListN.{List·getD-eq-default}
 use denote.Ref.{now}
 use borrow.Author.Needs.{needs}
@@ -9,10 +9,13 @@ use Rattle.scope.proofs.scopes.cell_at.Tie as tie
 cast-result : tie.Need-cast-result
 cast-result c = omega (arith, c .shared-slice-known .given (c .before .before .args .i))
 
+returns : tie.Need-returns
+returns c = (refl, omega (arith, c .shared-slice-known .given (c .before .before .args .i)))
+
 returns-2 : tie.Need-returns-2
-returns-2 c = sym (List·getD-eq-default (now (c .before .args .cells)) 0 (c .if1 .left))
+returns-2 c = (sym (List·getD-eq-default (now (c .before .args .cells)) 0 (c .if1 .left)), omega arith)
 
 pub cell-at-spec : {M : Type 1} → statement M
 cell-at-spec =
     tie.close
-    (tie.spec (λ c. search needs) (λ c. search needs) cast-result (λ c. search needs) returns-2)
+    (tie.spec (λ c. search needs) (λ c. search needs) cast-result returns returns-2)

@@ -1,0 +1,204 @@
+-- Records of names: written, read, and compared with a name.
+use Prim.Native.Nat.{ℕ, suc, _+_, _-_, _*_, _/_, _≤_, _<_, min}
+use native.Mathlib.Omega.{arith}
+use mathlib.Core.Path.{_≡_, refl, sym, ap, ap₂, _∙_}
+use mathlib.Core.Bool.{Bool, true, false, true≢false}
+use mathlib.Core.List.{List, [], _∷_, List·Memᴰ}
+use lib.ListN.{length, take, drop, getD, set, length-set, length-take, length-drop, List·getD-eq-default}
+use lib.Seq.{getD-take, getD-set-same, getD-set-other}
+use lib.Dec.{leb, eqb, eqb→eq}
+use borrow.Author.Tests.{le-leb, leb-true, leb-false}
+use Rattle.varint.specs.Outcome.{pass}
+use Rattle.varint.specs.Lists.{isEmpty}
+use Rattle.varint.specs.Bytes.{Bytes, part, same}
+use Rattle.varint.specs.Encoding.{encode}
+use Rattle.varint.proofs.Passing.{passed-tells}
+use Rattle.varint.proofs.SliceLaws.{same-length}
+use Rattle.varint.proofs.EncodingLaws.{width-last, width-more, width-one}
+use Rattle.wire.specs.Wire.{LEN, field}
+use Rattle.wire.specs.Message.{allOf, text, message}
+use Rattle.wire.specs.Encoding.{contentsAt}
+use Rattle.wire.specs.declared.Field.{Field}
+use Rattle.wire.proofs.Reading.{Fits, AtTag, field-tells}
+use Rattle.wire.proofs.EncodingLaws.{contents-there}
+use Rattle.schema.specs.declared.Kind.{Kind}
+use Rattle.schema.specs.Rows.{rowOf}
+use Rattle.schema.specs.FirstWalk.{fits}
+use Rattle.schema.specs.Opened.{Walked}
+use Rattle.schema.proofs.Opened.{walked-number, walked-fits}
+use Rattle.rules.specs.Names.{nameIn}
+use Rattle.rules.specs.Verdict.{WIDTH, room}
+use Rattle.scope.specs.Scope.{placeIn, lengthIn, stored, nameAt, recorded, Direct}
+
+-- ---- records
+
+pub room-fits : (i size : ℕ) → i < room size → 2 * i + 1 < size
+unfolding room WIDTH
+room-fits i size h = omega arith
+
+-- records before one that is written stay, and it holds what was written
+module _ (cells : List ℕ) (n place len : ℕ) where
+  stored-other : (i : ℕ) → i < n → (placeIn (stored cells n place len) i ≡ placeIn cells i) × (lengthIn (stored cells n place len) i ≡ lengthIn cells i)
+  unfolding placeIn lengthIn stored WIDTH
+  stored-other i h = (
+    getD-set-other (set cells (2 * n) place) (2 * n + 1) (2 * i) len 0 (λ e. omega arith) ∙ getD-set-other cells (2 * n) (2 * i) place 0 (λ e. omega arith),
+    getD-set-other (set cells (2 * n) place) (2 * n + 1) (2 * i + 1) len 0 (λ e. omega arith) ∙ getD-set-other cells (2 * n) (2 * i + 1) place 0 (λ e. omega arith),
+  )
+
+  stored-same : n < room (length cells) → (placeIn (stored cells n place len) n ≡ place) × (lengthIn (stored cells n place len) n ≡ len)
+  unfolding placeIn lengthIn stored room WIDTH
+  stored-same h = (
+    getD-set-other (set cells (2 * n) place) (2 * n + 1) (2 * n) len 0 (λ e. omega arith) ∙ getD-set-same cells (2 * n) place 0 (omega arith),
+    getD-set-same (set cells (2 * n) place) (2 * n + 1) len 0 (omega (arith, length-set cells (2 * n) place)),
+  )
+
+-- ---- one of them, read
+
+pub place-past : (cells : List ℕ) (i : ℕ) → length cells ≤ i → (0 ≡ placeIn cells i) × (0 < 4294967296)
+unfolding placeIn WIDTH
+place-past cells i h = (sym (List·getD-eq-default cells 0 (omega arith)), omega arith)
+
+pub length-past : (cells : List ℕ) (i : ℕ) → length cells ≤ i → (0 ≡ lengthIn cells i) × (0 < 4294967296)
+unfolding lengthIn WIDTH
+length-past cells i h = (sym (List·getD-eq-default cells 0 (omega arith)), omega arith)
+
+pub place-read : (cells : List ℕ) (i : ℕ) {r : ℕ} → (r ≡ getD cells (2 * i) 0) × (r < 4294967296) → (r ≡ placeIn cells i) × (r < 4294967296)
+unfolding placeIn WIDTH
+place-read cells i h = h
+
+pub length-read : (cells : List ℕ) (i : ℕ) {r : ℕ} → (r ≡ getD cells (2 * i + 1) 0) × (r < 4294967296) → (r ≡ lengthIn cells i) × (r < 4294967296)
+unfolding lengthIn WIDTH
+length-read cells i h = h
+
+-- a cell can hold what a record holds of a name
+pub direct-fits : (model : Bytes) (f : Field) → Direct model f → (most : ℕ) → length model < most → (f .place < most) × (f .next - f .start < most)
+unfolding contentsAt
+direct-fits model f d most h =
+    let inside = d .inside in
+    let ends = d .ends in
+    let there = d .there in
+    (omega arith, omega arith)
+
+-- only the records in use count
+pub placed-prefix : (a b : List ℕ) (used i : ℕ) → i < used → take (WIDTH * used) a ≡ take (WIDTH * used) b → (placeIn a i ≡ placeIn b i) × (lengthIn a i ≡ lengthIn b i)
+unfolding placeIn lengthIn WIDTH
+placed-prefix a b used i h e = (at (2 * i) (omega arith), at (2 * i + 1) (omega arith))
+  where
+    at : (k : ℕ) → k < 2 * used → getD a k 0 ≡ getD b k 0
+    at k l = sym (getD-take (2 * used) a k 0 l) ∙ ap (λ (l : List ℕ). getD l k 0) e ∙ getD-take (2 * used) b k 0 l
+
+module _ (model : Bytes) where
+  pub recorded-by : (a b : List ℕ) (i : ℕ) → (placeIn a i ≡ placeIn b i) × (lengthIn a i ≡ lengthIn b i) → recorded model a i ≡ recorded model b i
+  unfolding recorded
+  recorded-by a b i e = ap₂ (nameAt model) (e .0) (e .1)
+
+  pub recorded-other : (cells : List ℕ) (n place len i : ℕ) → i < n → recorded model (stored cells n place len) i ≡ recorded model cells i
+  recorded-other cells n place len i h = recorded-by (stored cells n place len) cells i (stored-other cells n place len i h)
+
+  pub recorded-same : (cells : List ℕ) (n place len : ℕ) → n < room (length cells) → recorded model (stored cells n place len) n ≡ nameAt model place len
+  unfolding recorded
+  recorded-same cells n place len h = let e = stored-same cells n place len h in ap₂ (nameAt model) (e .0) (e .1)
+
+  -- "the bytes of a name follow from place and length"
+  pub name-direct : (f : Field) → Direct model f → nameAt model (f .place) (f .next - f .start) ≡ nameIn model f
+  unfolding nameAt nameIn text
+  name-direct f d =
+      let ends = d .ends in
+      let inside = d .inside in
+      let fits : leb (f .start + (f .next - f .start)) (length model) ≡ true = le-leb (f .start + (f .next - f .start)) (length model) (omega arith) in
+      ap (λ (at : ℕ). record {
+        bytes = elim (leb (at + (f .next - f .start)) (length model)) [ true ↦ part at (f .next - f .start) model | false ↦ [] ];
+        place = f .place;
+      }) (sym (d .there)) ∙ rw fits refl
+
+-- ---- how many bytes a length takes
+
+pub width-two : (n : ℕ) → 128 ≤ n → n < 16384 → length (encode n) ≡ 2
+unfolding encode
+width-two n h k = width-more 9 n h ∙ ap suc (width-last 8 (n / 128) (omega arith))
+
+pub width-three : (n : ℕ) → 16384 ≤ n → n < 2097152 → length (encode n) ≡ 3
+unfolding encode
+width-three n h k = width-more 9 n (omega arith) ∙ ap suc (width-more 8 (n / 128) (omega arith) ∙ ap suc (width-last 7 (n / 128 / 128) (omega arith)))
+
+pub width-four : (n : ℕ) → 2097152 ≤ n → n < 268435456 → length (encode n) ≡ 4
+unfolding encode
+width-four n h k =
+    width-more 9 n (omega arith)
+    ∙ ap suc (width-more 8 (n / 128) (omega arith)
+    ∙ ap suc (width-more 7 (n / 128 / 128) (omega arith) ∙ ap suc (width-last 6 (n / 128 / 128 / 128) (omega arith))))
+
+pub width-five : (n : ℕ) → 268435456 ≤ n → n < 34359738368 → length (encode n) ≡ 5
+unfolding encode
+width-five n h k =
+    width-more 9 n (omega arith)
+    ∙ ap suc (width-more 8 (n / 128) (omega arith)
+    ∙ ap suc (width-more 7 (n / 128 / 128) (omega arith)
+    ∙ ap suc (width-more 6 (n / 128 / 128 / 128) (omega arith) ∙ ap suc (width-last 5 (n / 128 / 128 / 128 / 128) (omega arith)))))
+
+-- ---- a record beside a name that is not empty
+
+part-size : (s : Bytes) (a n : ℕ) → length (part a n s) ≡ min n (length s - a)
+unfolding part
+part-size s a n = length-take n (drop a s) ∙ ap (min n) (length-drop a s)
+
+some-length : (x : Bytes) → isEmpty x ≡ false → 0 < length x
+unfolding isEmpty
+some-length [] e = absurd (true≢false e)
+some-length (b ∷ x) e = omega arith
+
+not-empty : (x : Bytes) → isEmpty x ≡ false → false ≡ same x []
+unfolding isEmpty same
+not-empty [] e = sym e
+not-empty (b ∷ x) e = refl
+
+module _ (model : Bytes) (cells : List ℕ) (i : ℕ) (name : Bytes) (some : isEmpty name ≡ false) (len : ℕ) (el : len ≡ lengthIn cells i) where
+  abbrev start : ℕ
+  start = contentsAt (placeIn cells i) len
+
+  abbrev there : Bool → Bytes
+  there b = elim b [ true ↦ part start len model | false ↦ [] ]
+
+  by-length : recorded model cells i .bytes ≡ there (leb (start + len) (length model))
+  unfolding recorded nameAt
+  by-length = rw (← el) refl
+
+  pub other-length : (len ≡ length name → ⊥) → false ≡ same name (recorded model cells i .bytes)
+  other-length differ = go (leb (start + len) (length model)) (leb-true (start + len) (length model)) ∙ ap (same name) (sym by-length)
+    where
+      go : (b : Bool) → (b ≡ true → start + len ≤ length model) → false ≡ same name (there b)
+      go true h = same-length name (part start len model) (λ e. differ (let l = h refl in let size = part-size model start len in omega arith))
+      go false h = not-empty name some
+
+  -- s is where it begins, x what the model has there, t the answer of the comparison
+  pub same-there : len ≡ length name → {s : ℕ} → s ≡ start → {x : Bytes} → x ≡ part s (s + len - s) model → {t : Bool} → t ≡ same name x
+      → t ≡ same name (recorded model cells i .bytes)
+  same-there same′ {s} es {x} ex et =
+      et ∙ ap (same name) (ex ∙ ap₂ (λ (a n : ℕ). part a n model) es (omega arith)) ∙ go (leb (start + len) (length model)) (leb-false (start + len) (length model))
+      ∙ ap (same name) (sym by-length)
+    where
+      go : (b : Bool) → (b ≡ false → length model < start + len) → same name (part start len model) ≡ same name (there b)
+      go true h = refl
+      go false h =
+          sym (same-length name (part start len model) (λ e. let l = h refl in let size = part-size model start len in nothing e l size)) ∙ not-empty name some
+        where
+          nothing : length name ≡ length (part start len model) → length model < start + len → length (part start len model) ≡ min len (length model - start) → ⊥
+          nothing e l size = let one = some-length name some in omega arith
+
+-- ---- names in fields
+
+-- a name whose row is bytes, read in a message that the first walk passed
+pub name-there : {model : Bytes} {kind : Kind} {m : Field} → Walked model kind m → (n : ℕ) {f : Field}
+    → List·Memᴰ f (allOf n (message model m)) → ((wire : ℕ) → fits wire (rowOf kind n) ≡ eqb wire LEN) → n < 16 → field model (m .next) (f .place) ≡ pass f
+    → Direct model f
+name-there {model} {kind} {m} w n {f} here row small read =
+    let wire : f .wire ≡ LEN = eqb→eq (f .wire) LEN (rw (row (f .wire)) at (walked-fits w n here)) in
+    let number : f .number ≡ n = walked-number w n here in
+    let lies = passed-tells (Fits (f .place) (m .next)) (AtTag (f .place)) (field model (m .next) (f .place)) f (field-tells model (m .next) (f .place)) read in
+    let last = lies .3 in
+    let size = w .inside in
+    record {
+      inside = omega arith;
+      ends = lies .2;
+      there = contents-there model (m .next) size (f .place) f read (rw number small) wire;
+    }
