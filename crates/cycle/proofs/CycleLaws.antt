@@ -1,13 +1,14 @@
 -- A loop of the cycle over nodes, attributes or bodies: what `Adding` says, and no more nodes counted than bytes passed.
 use Prim.Native.Nat.{ℕ, _+_, _-_, _^_, _≤_, _<_}
 use native.Mathlib.Omega.{arith}
-use mathlib.Core.Path.{_≡_}
+use mathlib.Core.Path.{_≡_, refl}
 use mathlib.Core.List.{List}
+use mathlib.Core.Option.{some}
 use lib.ListN.{length}
 use Rattle.varint.specs.Outcome.{Judged, each}
 use Rattle.varint.specs.Bytes.{Bytes}
 use Rattle.wire.specs.Wire.{field}
-use Rattle.wire.specs.Answers.{soughtSays, soughtIn}
+use Rattle.wire.specs.Answers.{soughtSays, contentsOf, soughtIn}
 use Rattle.varint.specs.declared.Refusal.{Refusal}
 use Rattle.wire.specs.declared.Field.{Field}
 use Rattle.wire.specs.declared.Cursor.{Cursor}
@@ -16,21 +17,30 @@ use Rattle.wire.specs.declared.Sought.the-variants as sought
 use Rattle.varint.proofs.Passing.{passed-tells}
 use Rattle.wire.proofs.Reading.{Fits, AtTag, field-tells}
 use Rattle.wire.proofs.Along.{allFrom, along-start, along-from, along-past, along-read}
+use Rattle.schema.specs.declared.Kind.{Kind}
+use Rattle.schema.specs.Rows.{rowOf}
+use Rattle.schema.specs.FirstWalk.{kindOf}
+use Rattle.schema.specs.Opened.{Walked}
 use Rattle.rules.specs.Walk.{Walk}
 use Rattle.scope.specs.Scope.{walkIn, stepSays, grows, Enters, counted, Keeps}
 use Rattle.scope.specs.declared.scopes.Progress.{Progress}
 use Rattle.scope.specs.declared.scopes.Step.{Step}
 use Rattle.scope.specs.declared.scopes.Step.the-variants as step
-use Rattle.scope.proofs.StepLaws.{Adder, Adding, adding-start, adding-done, adding-falls, adding-stops, adding-goes}
+use Rattle.scope.proofs.StepLaws.{Adder, Adding, adding-start, adding-done, adding-falls, adding-walked, adding-stops, adding-goes}
 
 pub record Going (model : Bytes) (number end start : ℕ) (rule : Adder) (o : Judged Walk) (first : List ℕ) (p : Progress) (cells : List ℕ) (q : Progress) (c : Cursor) : Type 0 where
-  pub adding : Adding model number end rule o first p cells q c
+  pub adding : Adding model number end start rule o first p cells q c
   pub from : start ≤ c .at
   pub inside : c .at ≤ end
   pub few : q .nodes + start ≤ p .nodes + c .at
 
-pub enters-low : {model : Bytes} {p : Progress} {f : Field} → Enters model p f → p .nodes ≤ f .start
+pub enters-low : {model : Bytes} {kind : Kind} {p : Progress} {f : Field} → Enters model kind p f → p .nodes ≤ f .start
 enters-low n = let a = n .few in let b = n .tagged in omega arith
+
+-- the message that a field holds, from its start to its end
+pub own-contents : (m : Field) → record { at = m .start; end = m .next } ≡ contentsOf m
+unfolding contentsOf
+own-contents m = refl
 
 pub going-start : (model : Bytes) (number : ℕ) (rule : Adder) (first : List ℕ) (p : Progress) (c : Cursor) → c .at ≤ c .end
     → Going model number (c .end) (c .at) rule (each (rule (length first)) (walkIn model first p) (allFrom model number (c .end) (c .at))) first p first p c
@@ -58,11 +68,13 @@ module _ {model : Bytes} {number end start : ℕ} {rule : Adder} {o : Judged Wal
       fits = passed-tells (Fits (f .place) end) (AtTag (f .place)) (field model end (f .place)) f (field-tells model end (f .place)) (along-read (g .adding .along) read e)
 
       -- the walk may go into the field
-      pub going-enters : length model < 2 ^ 32 → end ≤ length model → p .nodes ≤ start → Enters model q f
-      going-enters h k l =
+      pub going-enters : length model < 2 ^ 32 → {kind k : Kind} {m : Field} → Walked model kind m → record { at = start; end = end } ≡ contentsOf m
+          → kindOf (rowOf kind number) ≡ some k → p .nodes ≤ start
+          → Enters model k q f
+      going-enters h w at row l =
           let low = along-from (g .adding .along) read e in
           let few = g .few in
-          record { short = h; inside = (let m = fits .3 in omega arith); tagged = fits .1; ends = fits .2; few = omega arith }
+          record { short = h; walked = adding-walked (g .adding) read e w at row; tagged = fits .1; ends = fits .2; few = omega arith }
 
       -- which is shorter than what it lies in
       pub going-shorter : {t : ℕ} → end - start ≡ t → f .next - f .start < t

@@ -25,6 +25,7 @@ use Rattle.rules.specs.Walk.{Walk, GraphJudge, leaving}
 use Rattle.rules.specs.Verdict.{fills}
 use Rattle.rules.specs.Node.{carriers, badValue, body}
 use Rattle.rules.specs.Graph.{output}
+use Rattle.schema.specs.declared.Kind.{Kind}
 use Rattle.scope.specs.Scope.{scopeIn, walkIn, stepSays, standing, left, grows, Enters, counted, Keeps}
 use Rattle.values.specs.Answers.{rulingSays}
 use Rattle.messages.specs.Heads.{attributeRules}
@@ -98,7 +99,7 @@ module _ (model : Bytes) (depth : ℕ) (node : Field) (cells : List ℕ) (p : Pr
     good : badValue (numberOf Attribute·type (message model f)) (message model f) ≡ false
     good = attribute-value model node f (ruled-kept ruled k)
 
-    pub attribute-plain : Enters model p f → b ≡ false → Promised model Attribute cells cells p f (step.Went p)
+    pub attribute-plain : {kind : Kind} → Enters model kind p f → b ≡ false → Promised model Attribute cells cells p f (step.Went p)
     unfolding each
     attribute-plain e h = staying model p e (ap Bodies (sym (bodies-none (message model f) _ good own (sym eb ∙ h))) ∙ by-bodies)
 
@@ -110,7 +111,7 @@ module _ (model : Bytes) (depth : ℕ) (node : Field) (cells : List ℕ) (p : Pr
     module _ (h : b ≡ true) {begin : Cursor} (o : begin ≡ contentsOf f) {later : List ℕ} {q : Progress} {c : Cursor}
         (g : Going model n (begin .end) (begin .at) (λ size. body (Nested model depth size)) (Bodies (allFrom model n (begin .end) (begin .at))) cells p later q c)
         {a : Sought} (read : soughtSays a ≡ soughtIn model n (c .end) (c .at)) where
-      pub bodies-done : Enters model p f → a ≡ sought.Missing → Promised model Attribute cells later p f (step.Went q)
+      pub bodies-done : {kind : Kind} → Enters model kind p f → a ≡ sought.Missing → Promised model Attribute cells later p f (step.Went q)
       unfolding contentsOf
       bodies-done e i = loop-done (rw o at g) read e i (attribute-all h)
 
@@ -135,13 +136,13 @@ module _ (model : Bytes) (depth : ℕ) (node : Field) (cells : List ℕ) (p : Pr
 -- it can be counted
 pub node-low : {model : Bytes} {number : ℕ} {rule : Adder} {o : Judged Walk} {first : List ℕ} {p : Progress} {cells : List ℕ} {q : Progress}
     {c : Cursor} {f : Field}
-    → Going model number (f .next) (f .start) rule o first p cells q c → Enters model p f
+    → Going model number (f .next) (f .start) rule o first p cells q c → {kind : Kind} → Enters model kind p f
     → q .nodes < 2 ^ 32
 node-low g n =
     let few = going-few g in
     let low = enters-low n in
     let short = n .short in
-    let inside = n .inside in
+    let inside = n .walked .inside in
     let ends = n .ends in
     omega arith
 
@@ -179,7 +180,7 @@ module _ (model : Bytes) (depth : ℕ) (graph : Field) (cells : List ℕ) (p : P
         attributes-stop i = let t = going-stops g read e s judged more kept i in refusing model p i (refused-bind model last _ (t .0) i ∙ node-by) (t .1)
 
       -- s is the answer of closing it, with the cells `last`
-      module _ (n : Enters model p f) (e : a ≡ sought.Missing) {last : List ℕ} (s : Step)
+      module _ {kind : Kind} (n : Enters model kind p f) (e : a ≡ sought.Missing) {last : List ℕ} (s : Step)
           (closed : stepSays model last s ≡ closing model (fills (length later)) (walkIn model later q) f) (more : grows q s)
           (kept : Keeps (q .used) later last) where
         one-more : (t : Step) → stepSays model last t ≡ closing model (fills (length later)) (walkIn model later q) f → counted f p t
@@ -247,7 +248,7 @@ module _ (model : Bytes) (depth : ℕ) (main : Bool) (cells : List ℕ) (p : Pro
       unfolding stepSays walkIn
       graph-still = opening-stays model (fills (length cells)) main (walkIn model cells p) f (walkIn model later first) (sym (says (stepSays model later) opened k))
 
-      pub first-low : Enters model p f → first .nodes ≤ f .start
+      pub first-low : {kind : Kind} → Enters model kind p f → first .nodes ≤ f .start
       first-low n = let low = enters-low n in let still = graph-still in omega arith
 
       nodes-by : (Nodes (length later) (walkIn model later first) (allFrom model Graph·node (f .next) (f .start)) >>= Outputs) ≡ Graph
@@ -277,7 +278,7 @@ module _ (model : Bytes) (depth : ℕ) (main : Bool) (cells : List ℕ) (p : Pro
                 refusing model p i (refused-bind model last Outputs (u .0) i ∙ nodes-by) (keeps-then kept (keeps-fewer first-more (u .1)))
 
           -- r is the ruling on the outputs
-          pub nodes-done : Enters model p f → a ≡ sought.Missing → (r : Ruling)
+          pub nodes-done : {kind : Kind} → Enters model kind p f → a ≡ sought.Missing → (r : Ruling)
               → rulingSays r ≡ each (output model (context model main) (scopeIn model now (q .used))) tt (allOf Graph·output (message model f))
               → {t : Step} → t ≡ standing q r
               → Promised model Graph cells now p f t

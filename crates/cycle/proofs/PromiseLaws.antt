@@ -17,6 +17,7 @@ use Rattle.wire.specs.declared.Sought.the-variants as sought
 use Rattle.varint.proofs.Answers.{says}
 use Rattle.varint.proofs.Passing.{fail-no-pass}
 use Rattle.rules.specs.Walk.{Walk}
+use Rattle.schema.specs.declared.Kind.{Kind}
 use Rattle.scope.specs.Scope.{walkIn, stepSays, standing, grows, Enters, counted, Keeps}
 use Rattle.values.specs.Answers.{rulingSays}
 use Rattle.values.specs.declared.Ruling.{Ruling}
@@ -72,7 +73,7 @@ refused-bind model last after e k = ap (stepSays model last) k ∙ ap (λ (o : J
 
 -- the walk stays where it is
 pub staying : (model : Bytes) {o : Judged Walk} {cells : List ℕ} (p : Progress) {f : Field}
-    → Enters model p f → pass (walkIn model cells p) ≡ o
+    → {kind : Kind} → Enters model kind p f → pass (walkIn model cells p) ≡ o
     → Promised model o cells cells p f (step.Went p)
 unfolding stepSays grows counted
 staying model p n e = record { answer = e; grown = omega arith; counts = (let a = n .tagged in let b = n .ends in omega arith); kept = keeps-all _ _ }
@@ -117,7 +118,7 @@ module _ (model : Bytes) {rule : Rule} (rest : Judged Walk) (r : Ruling) (ruled 
 
 module _ {model : Bytes} {number : ℕ} {rule : Adder} {o : Judged Walk} {first : List ℕ} {p : Progress} {cells : List ℕ} {q : Progress} {c : Cursor} {f : Field}
     (g : Going model number (f .next) (f .start) rule o first p cells q c) {a : Sought} (read : soughtSays a ≡ soughtIn model number (c .end) (c .at)) where
-  pub loop-done : Enters model p f → a ≡ sought.Missing → {t : Judged Walk} → o ≡ t → Promised model t first cells p f (step.Went q)
+  pub loop-done : {kind : Kind} → Enters model kind p f → a ≡ sought.Missing → {t : Judged Walk} → o ≡ t → Promised model t first cells p f (step.Went q)
   unfolding counted
   loop-done n e k =
       let d = going-done g read e in

@@ -4,6 +4,7 @@ ghost use mathlib.Core.Path.{_≡_};
 ghost use mathlib.Core.Bool.{true, false};
 ghost use lib.ListN.{length, drop};
 ghost use Rattle.rules.specs.Verdict.{fills};
+ghost use Rattle.schema.specs.declared.Kind.the-variants.{Graph, Node, Attribute};
 ghost use Rattle.schema.specs.Numbers.{Graph·node, Node·name, Node·attribute, Attribute·name};
 ghost use Rattle.index.specs.Listing.{Listed};
 ghost use Rattle.headers.specs.Earlier.{earlierIn};
@@ -46,7 +47,7 @@ pub fn graph(
     p: Progress,
     f: Field,
 ) -> Step
-    requires { ⌜ Enters (now model) p f ⌝ }
+    requires { ⌜ Enters (now model) Graph p f ⌝ }
     requires { ⌜ Minds (now model) ix top (now cells) (now extra) ⌝ }
     requires { ⌜ (main ≡ true → p .used ≡ 0) ⌝ }
     ensures answer { λ r. ⌜ stepSays (now (model .entry)) (now (cells .exit)) r ≡ graphAgain (now (model .entry)) (fills (length (now (cells .entry)))) left main (walkIn (now (model .entry)) (now (cells .entry)) p) f ⌝ }
@@ -96,7 +97,7 @@ fn node(
     p: Progress,
     f: Field,
 ) -> Step
-    requires { ⌜ Enters (now model) p f ⌝ }
+    requires { ⌜ Enters (now model) Node p f ⌝ }
     requires { ⌜ Minds (now model) ix (l .top) (now cells) (now extra) ⌝ }
     requires { ⌜ Listed (now model) (ix .seed) (drop (ix .split) (now extra)) l (earlierIn (now model) Graph·node Node·name graph f) ⌝ }
     ensures answer { λ r. ⌜ stepSays (now (model .entry)) (now (cells .exit)) r ≡ nodeAgain (now (model .entry)) (fills (length (now (cells .entry)))) (λ v g. graphAgain (now (model .entry)) (fills (length (now (cells .entry)))) left false v g) graph (walkIn (now (model .entry)) (now (cells .entry)) p) f ⌝ }
@@ -143,7 +144,7 @@ fn attribute(
     p: Progress,
     f: Field,
 ) -> Step
-    requires { ⌜ Enters (now model) p f ⌝ }
+    requires { ⌜ Enters (now model) Attribute p f ⌝ }
     requires { ⌜ Minds (now model) ix (l .top) (now cells) (now extra) ⌝ }
     requires { ⌜ Listed (now model) (ix .seed) (drop (ix .split) (now extra)) l (earlierIn (now model) Node·attribute Attribute·name n f) ⌝ }
     ensures answer { λ r. ⌜ stepSays (now (model .entry)) (now (cells .exit)) r ≡ attributeAgain (now (model .entry)) (fills (length (now (cells .entry)))) (λ v g. graphAgain (now (model .entry)) (fills (length (now (cells .entry)))) left false v g) n (walkIn (now (model .entry)) (now (cells .entry)) p) f ⌝ }

@@ -19,7 +19,6 @@ use Rattle.rules.specs.Walk.{Context, inMain, Walk, visible, naming, define}
 use Rattle.rules.specs.Types.{declaredType}
 use Rattle.rules.specs.Node.{nodeOutput}
 use Rattle.rules.specs.Graph.{output}
-use Rattle.scope.specs.Scope.{nameAt}
 use Rattle.values.specs.Answers.{namingSays, nameField}
 use Rattle.values.specs.declared.names.Naming.{Naming}
 use Rattle.values.specs.declared.names.Naming.the-variants as naming-answer
@@ -46,9 +45,9 @@ module _ (model : Bytes) (full : ℕ → Bool) (w : Walk) (f : Field) {x : Bytes
     unfolding Named
     output-bad e = sym (output-by (empty-some x h) ∙ when-broken 21 (f .place) _ (stands ∙ ap not e))
 
-    pub output-new : b ≡ true → nameAt model (f .place) ≡ nameIn model f → define full w (nameAt model (f .place)) ≡ nodeOutput model full w f
+    pub output-new : b ≡ true → define full w (nameIn model f) ≡ nodeOutput model full w f
     unfolding Named
-    output-new e k = ap (define full w) k ∙ sym (output-by (empty-some x h) ∙ when-kept 21 (f .place) _ (stands ∙ ap not e))
+    output-new e = sym (output-by (empty-some x h) ∙ when-kept 21 (f .place) _ (stands ∙ ap not e))
 
 -- an output of a graph; its rule asks of the graph only whether it is the main one
 pub outputs-any : (model : Bytes) (scope : List Name) (main : Bool) (k : Context)

@@ -5,6 +5,8 @@ ghost use lib.ListN.{length, drop};
 ghost use Rattle.varint.specs.Outcome.{each};
 ghost use Rattle.wire.specs.Message.{allOf, message};
 ghost use Rattle.schema.specs.Numbers.{Graph·node, Node·input, Node·name, Node·attribute, Attribute·name};
+ghost use Rattle.schema.specs.declared.Kind.the-variants.{Node};
+ghost use Rattle.schema.specs.Opened.{Walked};
 ghost use Rattle.rules.specs.Verdict.{fills};
 ghost use Rattle.rules.specs.Node.{nodeInput};
 ghost use Rattle.index.specs.Listing.{Listed};
@@ -146,7 +148,7 @@ pub fn closing(
     f: Field,
 ) -> Step
     requires { ⌜ length (now model) < 2 ^ 32 ⌝ }
-    requires { ⌜ f .next ≤ length (now model) ⌝ }
+    requires { ⌜ Walked (now model) Node f ⌝ }
     requires { ⌜ p .nodes < 2 ^ 32 ⌝ }
     requires { ⌜ Recalling (now model) ix (now cells) (now extra) ⌝ }
     ensures answer { λ r. ⌜ stepSays (now (model .entry)) (now (cells .exit)) r ≡ closing (now (model .entry)) (fills (length (now (cells .entry)))) (walkIn (now (model .entry)) (now (cells .entry)) p) f ⌝ }

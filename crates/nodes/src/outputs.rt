@@ -1,16 +1,17 @@
 // The outputs of a node, which are new names, and those of a graph, which are visible ones.
 ghost use mathlib.Core.Path.{_≡_};
-ghost use Prim.Native.Nat.{_^_, _<_, _≤_};
+ghost use Prim.Native.Nat.{_^_, _<_};
 ghost use lib.ListN.{length};
 ghost use Rattle.varint.specs.Outcome.{each};
 ghost use Rattle.wire.specs.Message.{allOf, message};
+ghost use Rattle.schema.specs.declared.Kind.the-variants.{Node};
 ghost use Rattle.schema.specs.Numbers.{Node·output, Graph·output};
+ghost use Rattle.schema.specs.Opened.{Walked};
 ghost use Rattle.rules.specs.Verdict.{fills};
-ghost use Rattle.rules.specs.Names.{nameIn};
 ghost use Rattle.rules.specs.Walk.{Context};
 ghost use Rattle.rules.specs.Node.{nodeOutput};
 ghost use Rattle.rules.specs.Graph.{output};
-ghost use Rattle.scope.specs.Scope.{nameAt, scopeIn, walkIn, stepSays, grows, Keeps};
+ghost use Rattle.scope.specs.Scope.{scopeIn, walkIn, stepSays, grows, Direct, Keeps};
 ghost use Rattle.scope.specs.Recall.{Recalling, Recalled};
 ghost use Rattle.values.specs.Answers.{rulingSays};
 use rules::is_identifier;
@@ -40,8 +41,7 @@ fn node_output(
     p: Progress,
     f: Field,
 ) -> Step
-    requires { ⌜ f .place < 2 ^ 32 ⌝ }
-    requires { ⌜ nameAt (now model) (f .place) ≡ nameIn (now model) f ⌝ }
+    requires { ⌜ Direct (now model) f ⌝ }
     requires { ⌜ length (now model) < 2 ^ 32 ⌝ }
     requires { ⌜ Recalling (now model) ix (now cells) (now extra) ⌝ }
     ensures answer { λ r. ⌜ stepSays (now (model .entry)) (now (cells .exit)) r ≡ nodeOutput (now (model .entry)) (fills (length (now (cells .entry)))) (walkIn (now (model .entry)) (now (cells .entry)) p) f ⌝ }
@@ -59,7 +59,8 @@ fn node_output(
     define(model, cells, extra, ix, p, f)
 }
 
-// A cell holds the place of a name, so the model is shorter than the greatest number in one.
+// A cell holds the place of a name, so the model is shorter than the greatest number in one; the first walk passed the message, so that
+// a name is found by place and length.
 pub(crate) fn node_outputs(
     model: &[u8],
     cells: &mut [u32],
@@ -69,7 +70,7 @@ pub(crate) fn node_outputs(
     node: Field,
 ) -> Step
     requires { ⌜ length (now model) < 2 ^ 32 ⌝ }
-    requires { ⌜ node .next ≤ length (now model) ⌝ }
+    requires { ⌜ Walked (now model) Node node ⌝ }
     requires { ⌜ Recalling (now model) ix (now cells) (now extra) ⌝ }
     ensures answer { λ r. ⌜ stepSays (now (model .entry)) (now (cells .exit)) r ≡ each (nodeOutput (now (model .entry)) (fills (length (now (cells .entry))))) (walkIn (now (model .entry)) (now (cells .entry)) p) (allOf Node·output (message (now (model .entry)) node)) ⌝ }
     ensures grown { λ r. ⌜ grows p r ⌝ }

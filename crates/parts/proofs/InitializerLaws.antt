@@ -18,7 +18,7 @@ use Rattle.rules.specs.Types.{isElement}
 use Rattle.rules.specs.Graph.{isDefault, defaultOrNew}
 use Rattle.values.proofs.NameLaws.{nameSays, naming-says}
 use Rattle.headers.specs.Earlier.{earlierIn}
-use Rattle.scope.specs.Scope.{nameAt, scopeIn, walkIn, stepSays, grows, Keeps, Defaultable}
+use Rattle.scope.specs.Scope.{scopeIn, walkIn, stepSays, grows, Keeps, Defaultable}
 use Rattle.messages.specs.Again.{context, initializerAgain}
 use Rattle.values.specs.Answers.{namingSays, nameField}
 use Rattle.values.specs.declared.names.Naming.{Naming}
@@ -80,8 +80,8 @@ module _ (model : Bytes) (full : ℕ → Bool) (main : Bool) (graph : Field) (w 
     pub default-stands : b ≡ true → pass w ≡ Named (nameIn model g)
     default-stands e = default-by e
 
-    pub default-new : b ≡ false → nameAt model (g .place) ≡ nameIn model g → define full w (nameAt model (g .place)) ≡ Named (nameIn model g)
-    default-new e there = ap (define full w) there ∙ default-by e
+    pub default-new : b ≡ false → define full w (nameIn model g) ≡ Named (nameIn model g)
+    default-new e = default-by e
 
   -- ---- one initializer
 

@@ -1,10 +1,8 @@
 -- Inputs of a graph in the order of the code's tests.
-use Prim.Native.Nat.{ℕ, _≤_, _<_}
-use native.Mathlib.Omega.{arith}
+use Prim.Native.Nat.{ℕ}
 use mathlib.Core.Path.{_≡_, sym, ap, _∙_}
 use mathlib.Core.Bool.{Bool}
 use mathlib.Core.List.{List, []}
-use lib.ListN.{length}
 use Rattle.varint.specs.Outcome.{pass, fail, _>>=_, _>>_, each, Judged, Rule}
 use Rattle.varint.specs.declared.Refusal.{Refusal}
 use Rattle.wire.specs.declared.Field.{Field}
@@ -17,7 +15,7 @@ use Rattle.rules.specs.Walk.{Context, inMain, Walk, naming, define}
 use Rattle.rules.specs.Types.{declaredType}
 use Rattle.rules.specs.Graph.{input}
 use Rattle.scope.proofs.StepLaws.{plain}
-use Rattle.scope.specs.Scope.{nameAt, walkIn, stepSays}
+use Rattle.scope.specs.Scope.{walkIn, stepSays}
 use Rattle.values.specs.Answers.{rulingSays, namingSays, nameField}
 use Rattle.values.specs.declared.names.Naming.{Naming}
 use Rattle.values.specs.declared.names.Naming.the-variants as naming-answer
@@ -26,8 +24,7 @@ use Rattle.values.specs.declared.Ruling.the-variants as ruling
 use Rattle.scope.specs.declared.scopes.Progress.{Progress}
 use Rattle.scope.specs.declared.scopes.Step.{Step}
 use Rattle.scope.specs.declared.scopes.Step.the-variants as step
-use Rattle.values.proofs.NameLaws.{name-placed, nameSays, naming-says}
-use Rattle.scope.proofs.ScopeLaws.{name-there}
+use Rattle.values.proofs.NameLaws.{nameSays, naming-says}
 use Rattle.values.proofs.RulingLaws.{ruled-kept, ruled-refused}
 
 -- an input's rule asks of its graph only whether it is the main one
@@ -36,21 +33,6 @@ pub inputs-any : (model : Bytes) (full : ℕ → Bool) (main : Bool) (k : Contex
     → each (input model full (plain main)) w l ≡ each (input model full k) w l
 unfolding input inMain
 inputs-any model full main k e w l = ap (λ (b : Bool). each (input model full (plain b)) w l) (sym e)
-
--- n is the answer of reading the name
-module _ (model : Bytes) (number : ℕ) (f : Field) (n : Naming) (named : namingSays n ≡ nameField model 22 number (message model f)) {g : Field}
-    (e : n ≡ naming-answer.Named g) where
-  stands : pass (nameIn model g) ≡ naming model 22 number (message model f)
-  unfolding namingSays nameSays
-  stands = naming-says _ _ _ _ _ named e
-
-  pub named-there : f .next ≤ length model → nameAt model (g .place) ≡ nameIn model g
-  unfolding nameIn
-  named-there h = name-there model 22 number f stands h
-
-  pub named-placed : (most : ℕ) → length model < most → f .next ≤ length model → g .place < most
-  unfolding nameIn
-  named-placed most h i = let p : g .place < f .next = name-placed model 22 number f stands in omega arith
 
 module _ (model : Bytes) (full : ℕ → Bool) (k : Context) (w : Walk) (f : Field) where
   abbrev Declared : Rule
@@ -66,18 +48,19 @@ module _ (model : Bytes) (full : ℕ → Bool) (k : Context) (w : Walk) (f : Fie
   unfolding input typed Whole
   input-by e = ap Whole e
 
+  -- n is the answer of reading the name
   module _ (n : Naming) (named : namingSays n ≡ nameField model 22 ValueInfo·name (message model f)) where
     pub input-unnamed : {x : Refusal} → n ≡ naming-answer.Refused x → fail x ≡ input model full k w f
     unfolding namingSays nameSays Whole _>>=_
     input-unnamed e = input-by (naming-says _ _ _ _ _ named e)
 
-    module _ {g : Field} (e : n ≡ naming-answer.Named g) (there : nameAt model (g .place) ≡ nameIn model g) where
-      input-named : typed (define full w (nameAt model (g .place))) ≡ input model full k w f
+    module _ {g : Field} (e : n ≡ naming-answer.Named g) where
+      input-named : typed (define full w (nameIn model g)) ≡ input model full k w f
       unfolding namingSays nameSays Whole _>>=_
-      input-named = ap (λ (y : Name). typed (define full w y)) there ∙ input-by (naming-says _ _ _ _ _ named e)
+      input-named = input-by (naming-says _ _ _ _ _ named e)
 
       -- s is the answer of defining it, with the cells `later`
-      module _ (later : List ℕ) (s : Step) (defined : stepSays model later s ≡ define full w (nameAt model (g .place))) where
+      module _ (later : List ℕ) (s : Step) (defined : stepSays model later s ≡ define full w (nameIn model g)) where
         pub input-stops : {x : Refusal} → s ≡ step.Refused x → stepSays model later s ≡ input model full k w f
         unfolding stepSays typed _>>=_
         input-stops q = ap (stepSays model later) q ∙ ap typed (says (stepSays model later) defined q) ∙ input-named

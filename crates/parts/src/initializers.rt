@@ -7,14 +7,16 @@ ghost use Rattle.varint.specs.Lists.{isEmpty};
 ghost use Rattle.varint.specs.Bytes.{member};
 ghost use Rattle.varint.specs.Outcome.{each};
 ghost use Rattle.wire.specs.Message.{allOf, text, message};
+ghost use Rattle.schema.specs.declared.Kind.the-variants.{Graph, Tensor};
 ghost use Rattle.schema.specs.Numbers.{Graph·initializer, Tensor·name};
+ghost use Rattle.schema.specs.Opened.{Walked};
 ghost use Rattle.rules.specs.Names.{nameIn, inputsOf};
 ghost use Rattle.rules.specs.Verdict.{fills};
 ghost use Rattle.rules.specs.Graph.{isDefault, defaultOrNew};
 ghost use Rattle.index.specs.Memory.{known};
 ghost use Rattle.index.specs.Listing.{Listed};
 ghost use Rattle.headers.specs.Earlier.{earlierIn};
-ghost use Rattle.scope.specs.Scope.{nameAt, walkIn, stepSays, grows, Keeps, Defaultable};
+ghost use Rattle.scope.specs.Scope.{walkIn, stepSays, grows, Direct, Keeps, Defaultable};
 ghost use Rattle.scope.specs.Recall.{Recalling, Recalled, Minded};
 ghost use Rattle.messages.specs.Again.{context, initializerAgain};
 use headers::is_listed;
@@ -107,8 +109,7 @@ fn default_or_new(
     f: Field,
     name: Field,
 ) -> Step
-    requires { ⌜ name .place < 2 ^ 32 ⌝ }
-    requires { ⌜ nameAt (now model) (name .place) ≡ nameIn (now model) name ⌝ }
+    requires { ⌜ Direct (now model) name ⌝ }
     requires { ⌜ length (now model) < 2 ^ 32 ⌝ }
     requires { ⌜ Recalling (now model) ix (now cells) (now extra) ⌝ }
     requires { ⌜ Defaultable (now model) main graph (now cells) inputs ⌝ }
@@ -150,7 +151,7 @@ fn initializer(
     f: Field,
 ) -> Step
     requires { ⌜ length (now model) < 2 ^ 32 ⌝ }
-    requires { ⌜ f .next ≤ length (now model) ⌝ }
+    requires { ⌜ Walked (now model) Tensor f ⌝ }
     requires { ⌜ Recalling (now model) ix (now cells) (now extra) ⌝ }
     requires { ⌜ Defaultable (now model) main graph (now cells) inputs ⌝ }
     requires { ⌜ Listed (now model) (ix .seed) (drop (ix .split) (now extra)) l (earlierIn (now model) Graph·initializer Tensor·name graph f) ⌝ }
@@ -186,7 +187,7 @@ pub(crate) fn initializers(
     graph: Field,
 ) -> Step
     requires { ⌜ length (now model) < 2 ^ 32 ⌝ }
-    requires { ⌜ graph .next ≤ length (now model) ⌝ }
+    requires { ⌜ Walked (now model) Graph graph ⌝ }
     requires { ⌜ Recalling (now model) ix (now cells) (now extra) ⌝ }
     requires { ⌜ Defaultable (now model) main graph (now cells) (p .used) ⌝ }
     requires { ⌜ top ≤ known (drop (ix .split) (now extra)) ⌝ }

@@ -1,10 +1,13 @@
-// The inputs of a graph. A cell holds the place of a name, so the model is shorter than the greatest number in one.
+// The inputs of a graph. A cell holds the place of a name, so the model is shorter than the greatest number in one; the first walk
+// passed the message, so that a name is found by place and length.
 ghost use mathlib.Core.Path.{_≡_};
-ghost use Prim.Native.Nat.{_^_, _<_, _≤_};
+ghost use Prim.Native.Nat.{_^_, _<_};
 ghost use lib.ListN.{length};
 ghost use Rattle.varint.specs.Outcome.{each};
 ghost use Rattle.wire.specs.Message.{allOf, message};
+ghost use Rattle.schema.specs.declared.Kind.the-variants.{Graph, ValueInfo};
 ghost use Rattle.schema.specs.Numbers.{Graph·input};
+ghost use Rattle.schema.specs.Opened.{Walked};
 ghost use Rattle.rules.specs.Verdict.{fills};
 ghost use Rattle.rules.specs.Walk.{Context};
 ghost use Rattle.rules.specs.Graph.{input};
@@ -34,7 +37,7 @@ fn input(
     f: Field,
 ) -> Step
     requires { ⌜ length (now model) < 2 ^ 32 ⌝ }
-    requires { ⌜ f .next ≤ length (now model) ⌝ }
+    requires { ⌜ Walked (now model) ValueInfo f ⌝ }
     requires { ⌜ Recalling (now model) ix (now cells) (now extra) ⌝ }
     ensures answer { λ r. ⌜ ((k : Context) → k .main ≡ main → stepSays (now (model .entry)) (now (cells .exit)) r ≡ input (now (model .entry)) (fills (length (now (cells .entry)))) k (walkIn (now (model .entry)) (now (cells .entry)) p) f) ⌝ }
     ensures grown { λ r. ⌜ grows p r ⌝ }
@@ -66,7 +69,7 @@ pub(crate) fn inputs(
     graph: Field,
 ) -> Step
     requires { ⌜ length (now model) < 2 ^ 32 ⌝ }
-    requires { ⌜ graph .next ≤ length (now model) ⌝ }
+    requires { ⌜ Walked (now model) Graph graph ⌝ }
     requires { ⌜ Recalling (now model) ix (now cells) (now extra) ⌝ }
     ensures answer { λ r. ⌜ ((k : Context) → k .main ≡ main → stepSays (now (model .entry)) (now (cells .exit)) r ≡ each (input (now (model .entry)) (fills (length (now (cells .entry)))) k) (walkIn (now (model .entry)) (now (cells .entry)) p) (allOf Graph·input (message (now (model .entry)) graph))) ⌝ }
     ensures grown { λ r. ⌜ grows p r ⌝ }

@@ -3,6 +3,8 @@ ghost use mathlib.Core.Path.{_≡_};
 ghost use Prim.Native.Nat.{_^_, _<_, _≤_};
 ghost use mathlib.Core.Bool.{true};
 ghost use lib.ListN.{length, drop};
+ghost use Rattle.schema.specs.declared.Kind.the-variants.{Graph};
+ghost use Rattle.schema.specs.Opened.{Walked};
 ghost use Rattle.rules.specs.Verdict.{fills};
 ghost use Rattle.scope.specs.Scope.{walkIn, stepSays, grows, Keeps};
 ghost use Rattle.scope.specs.Recall.{Recalling, Minded};
@@ -54,7 +56,7 @@ pub fn opening(
     f: Field,
 ) -> Step
     requires { ⌜ length (now model) < 2 ^ 32 ⌝ }
-    requires { ⌜ f .next ≤ length (now model) ⌝ }
+    requires { ⌜ Walked (now model) Graph f ⌝ }
     requires { ⌜ Recalling (now model) ix (now cells) (now extra) ⌝ }
     requires { ⌜ top ≤ known (drop (ix .split) (now extra)) ⌝ }
     requires { ⌜ (main ≡ true → p .used ≡ 0) ⌝ }

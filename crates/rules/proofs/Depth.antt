@@ -20,7 +20,7 @@ use Rattle.schema.specs.declared.Kind.the-variants.{Model, Graph, Node, Attribu
 use Rattle.schema.specs.Rows.{rowOf, isGraph, Rows·computes}
 use Rattle.schema.specs.Numbers.{Model·graph, Graph·node, Node·attribute, Attribute·g, Attribute·graphs}
 use Rattle.schema.specs.FirstWalk.{kindOf, deeper, walked, firstWalk}
-use Rattle.schema.proofs.Opened.{Sound, Opens, walked-opens}
+use Rattle.schema.proofs.Opened.{Sound, Opens, walked-opens, graph-node, node-attribute, attribute-body}
 use Rattle.rules.specs.Names.{bodiesOf}
 use Rattle.rules.specs.Walk.{Context, nestedIn, Walk, start, leaving, Along, along}
 use Rattle.rules.specs.Node.{body, attribute, node}
@@ -44,22 +44,17 @@ module _ (model : Bytes) where
       opened-as g o q = rw q at (o .1)
 
   nodes-sound : (depth : ℕ) (f : Field) → walked model Graph depth [] (f .next) (f .start) ≡ pass tt → All (λ n. Sound model depth n Node) (allOf Graph·node (message model f))
-  unfolding allOf Rows·computes kindOf
-  nodes-sound depth f w = opens-kept Graph depth f (λ g. eqb Graph·node (g .number)) Node (λ g t. rw (← (eqb→eq Graph·node (g .number) t)) refl) w
+  unfolding allOf
+  nodes-sound depth f w = opens-kept Graph depth f (λ g. eqb Graph·node (g .number)) Node (λ g t. rw (← (eqb→eq Graph·node (g .number) t)) graph-node) w
 
   attributes-sound : (depth : ℕ) (n : Field) → Sound model depth n Node → All (λ a. Sound model depth a Attribute) (allOf Node·attribute (message model n))
-  unfolding allOf Rows·computes kindOf deeper
-  attributes-sound depth n s = opens-kept Node depth n (λ g. eqb Node·attribute (g .number)) Attribute (λ g t. rw (← (eqb→eq Node·attribute (g .number) t)) refl) (s .1)
+  unfolding allOf Rows·computes deeper
+  attributes-sound depth n s = opens-kept Node depth n (λ g. eqb Node·attribute (g .number)) Attribute (λ g t. rw (← (eqb→eq Node·attribute (g .number) t)) node-attribute) (s .1)
 
   bodies-sound : (depth : ℕ) (a : Field) → Sound model depth a Attribute → All (λ b. Sound model depth b Graph) (bodiesOf (message model a))
-  unfolding bodiesOf Rows·computes kindOf deeper
+  unfolding bodiesOf Rows·computes deeper
   bodies-sound depth a s =
-      opens-kept Attribute depth a (λ g. eqb Attribute·g (g .number) || eqb Attribute·graphs (g .number)) Graph
-      (λ g t. go g (or-cases (eqb Attribute·g (g .number)) (eqb Attribute·graphs (g .number)) t)) (s .1)
-    where
-      go : (g : Field) → T (eqb Attribute·g (g .number)) ⊎ T (eqb Attribute·graphs (g .number)) → kindOf (rowOf Attribute (g .number)) ≡ some Graph
-      go g (inl t) = rw (← (eqb→eq Attribute·g (g .number) t)) refl
-      go g (inr t) = rw (← (eqb→eq Attribute·graphs (g .number) t)) refl
+      opens-kept Attribute depth a (λ g. eqb Attribute·g (g .number) || eqb Attribute·graphs (g .number)) Graph (λ g t. attribute-body (g .number) t) (s .1)
 
   all-sound : (depth : ℕ) (f : Field) → walked model Graph depth [] (f .next) (f .start) ≡ pass tt
       → All (λ n. All (λ a. All (λ b. Sound model depth b Graph) (bodiesOf (message model a))) (allOf Node·attribute (message model n)))

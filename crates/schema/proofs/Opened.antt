@@ -3,7 +3,8 @@
 use Prim.Native.Nat.{ℕ, zero, suc, _+_, _-_, _≤_, _<_}
 use native.Mathlib.Omega.{arith}
 use mathlib.Core.Path.{_≡_, refl, sym, _∙_}
-use mathlib.Core.Bool.{Bool, true, false, not, _&&_}
+use mathlib.Core.Logic.{_⊎_, inl, inr}
+use mathlib.Core.Bool.{Bool, true, false, not, _&&_, _||_}
 use mathlib.Core.List.{List, [], _∷_, List·Memᴰ}
 use mathlib.Core.Option.{Option, none, some}
 use lib.Dec.{T, leb, eqb, eqb→eq}
@@ -15,13 +16,14 @@ use Rattle.wire.specs.Message.{allOf, message, whole}
 use Rattle.wire.specs.Order.{Gapless}
 use Rattle.wire.specs.declared.Tag.{Tag}
 use Rattle.wire.specs.declared.Field.{Field}
-use Rattle.varint.proofs.Lists.{All, If, all-member, keep-exactly}
+use Rattle.varint.proofs.Lists.{All, If, or-cases, all-member, keep-exactly}
 use Rattle.varint.proofs.Passing.{passed-bind, passed-seq, passed-rule, passed-tells}
 use Rattle.wire.proofs.Reading.{Fits, AtTag, Follows, tag-tells, value-tells, field-tells, field-placed}
 use Rattle.wire.proofs.Fields.{fields-ordered, ordered-all}
 use Rattle.schema.specs.declared.Kind.{Kind}
-use Rattle.schema.specs.declared.Kind.the-variants.{Model}
-use Rattle.schema.specs.Rows.{rowOf, isGraph}
+use Rattle.schema.specs.declared.Kind.the-variants.{Model, Graph, Node, Attribute, Tensor, ValueInfo}
+use Rattle.schema.specs.Numbers.{Model·graph, Graph·node, Graph·initializer, Graph·input, Node·attribute, Attribute·g, Attribute·graphs}
+use Rattle.schema.specs.Rows.{rowOf, isGraph, Rows·computes}
 use Rattle.schema.specs.FirstWalk.{fits, slotOf, taken, take-up, kindOf, deeper, contents, turn, walk, walked, firstWalk}
 use Rattle.schema.specs.Opened.{Opened, innermost, Walked}
 use Rattle.schema.proofs.Bound.{walk-bound}
@@ -173,3 +175,33 @@ module _ {model : Bytes} {kind : Kind} {m : Field} (w : Walked model kind m) (n 
 pub walked-whole : (model : Bytes) → firstWalk model ≡ pass tt → Walked model Model (whole model)
 unfolding firstWalk whole
 walked-whole model e = record { inside = omega arith; passed = (0, e) }
+
+-- ---- rows that open the messages of a graph
+
+pub model-graph : kindOf (rowOf Model Model·graph) ≡ some Graph
+unfolding kindOf Rows·computes
+model-graph = refl
+
+pub graph-input : kindOf (rowOf Graph Graph·input) ≡ some ValueInfo
+unfolding kindOf Rows·computes
+graph-input = refl
+
+pub graph-initializer : kindOf (rowOf Graph Graph·initializer) ≡ some Tensor
+unfolding kindOf Rows·computes
+graph-initializer = refl
+
+pub graph-node : kindOf (rowOf Graph Graph·node) ≡ some Node
+unfolding kindOf Rows·computes
+graph-node = refl
+
+pub node-attribute : kindOf (rowOf Node Node·attribute) ≡ some Attribute
+unfolding kindOf Rows·computes
+node-attribute = refl
+
+pub attribute-body : (n : ℕ) → T (eqb Attribute·g n || eqb Attribute·graphs n) → kindOf (rowOf Attribute n) ≡ some Graph
+unfolding kindOf Rows·computes
+attribute-body n t = go (or-cases (eqb Attribute·g n) (eqb Attribute·graphs n) t)
+  where
+    go : T (eqb Attribute·g n) ⊎ T (eqb Attribute·graphs n) → kindOf (rowOf Attribute n) ≡ some Graph
+    go (inl h) = rw (← (eqb→eq Attribute·g n h)) refl
+    go (inr h) = rw (← (eqb→eq Attribute·graphs n h)) refl

@@ -3,27 +3,32 @@ use Prim.Native.Nat.{ℕ, suc, _+_, _-_, _*_, _/_, _≤_, _<_, min}
 use native.Mathlib.Omega.{arith}
 use mathlib.Core.Path.{_≡_, refl, sym, ap, ap₂, _∙_}
 use mathlib.Core.Bool.{Bool, true, false, true≢false}
-use mathlib.Core.List.{List, [], _∷_, List·Memᴰ}
+use mathlib.Core.List.{List, [], _∷_, List·Memᴰ, List·Memᴰ·head}
+use mathlib.Core.Option.{some}
 use lib.ListN.{length, take, drop, getD, set, length-set, length-take, length-drop, List·getD-eq-default}
 use lib.Seq.{getD-take, getD-set-same, getD-set-other}
 use lib.Dec.{leb, eqb, eqb→eq}
 use borrow.Author.Tests.{le-leb, leb-true, leb-false}
 use Rattle.varint.specs.Outcome.{pass}
-use Rattle.varint.specs.Lists.{isEmpty}
+use Rattle.varint.specs.Lists.{isEmpty, present, first}
 use Rattle.varint.specs.Bytes.{Bytes, part, same}
 use Rattle.varint.specs.Encoding.{encode}
+use Rattle.varint.proofs.Lists.{some-same}
 use Rattle.varint.proofs.Passing.{passed-tells}
 use Rattle.varint.proofs.SliceLaws.{same-length}
 use Rattle.varint.proofs.EncodingLaws.{width-last, width-more, width-one}
 use Rattle.wire.specs.Wire.{LEN, field}
-use Rattle.wire.specs.Message.{allOf, text, message}
+use Rattle.wire.specs.Message.{allOf, firstOf, text, message}
 use Rattle.wire.specs.Encoding.{contentsAt}
 use Rattle.wire.specs.declared.Field.{Field}
 use Rattle.wire.proofs.Reading.{Fits, AtTag, field-tells}
 use Rattle.wire.proofs.EncodingLaws.{contents-there}
+use Rattle.wire.proofs.MessageLaws.{first-read}
 use Rattle.schema.specs.declared.Kind.{Kind}
-use Rattle.schema.specs.Rows.{rowOf}
-use Rattle.schema.specs.FirstWalk.{fits}
+use Rattle.schema.specs.declared.Kind.the-variants.{Node, Tensor, ValueInfo}
+use Rattle.schema.specs.Numbers.{ValueInfo·name, Tensor·name, Node·output}
+use Rattle.schema.specs.Rows.{rowOf, Rows·computes}
+use Rattle.schema.specs.FirstWalk.{wireOf, fits}
 use Rattle.schema.specs.Opened.{Walked}
 use Rattle.schema.proofs.Opened.{walked-number, walked-fits}
 use Rattle.rules.specs.Names.{nameIn}
@@ -31,6 +36,10 @@ use Rattle.rules.specs.Verdict.{WIDTH, room}
 use Rattle.scope.specs.Scope.{placeIn, lengthIn, stored, nameAt, recorded, Direct}
 
 -- ---- records
+
+pub room-few : (size : ℕ) → room size ≤ size
+unfolding room WIDTH
+room-few size = omega arith
 
 pub room-fits : (i size : ℕ) → i < room size → 2 * i + 1 < size
 unfolding room WIDTH
@@ -187,18 +196,38 @@ module _ (model : Bytes) (cells : List ℕ) (i : ℕ) (name : Bytes) (some : isE
 
 -- ---- names in fields
 
--- a name whose row is bytes, read in a message that the first walk passed
-pub name-there : {model : Bytes} {kind : Kind} {m : Field} → Walked model kind m → (n : ℕ) {f : Field}
-    → List·Memᴰ f (allOf n (message model m)) → ((wire : ℕ) → fits wire (rowOf kind n) ≡ eqb wire LEN) → n < 16 → field model (m .next) (f .place) ≡ pass f
-    → Direct model f
-name-there {model} {kind} {m} w n {f} here row small read =
-    let wire : f .wire ≡ LEN = eqb→eq (f .wire) LEN (rw (row (f .wire)) at (walked-fits w n here)) in
-    let number : f .number ≡ n = walked-number w n here in
-    let lies = passed-tells (Fits (f .place) (m .next)) (AtTag (f .place)) (field model (m .next) (f .place)) f (field-tells model (m .next) (f .place)) read in
-    let last = lies .3 in
-    let size = w .inside in
-    record {
-      inside = omega arith;
-      ends = lies .2;
-      there = contents-there model (m .next) size (f .place) f read (rw number small) wire;
-    }
+-- a row of bytes, whose tag is one byte
+abbrev pub OfBytes : Kind → (n : ℕ) → Type 0
+OfBytes kind n = ((wire : ℕ) → fits wire (rowOf kind n) ≡ eqb wire LEN) × (n < 16)
+
+pub value-info-name : OfBytes ValueInfo ValueInfo·name
+unfolding fits wireOf Rows·computes
+value-info-name = (λ wire. refl, omega arith)
+
+pub tensor-name : OfBytes Tensor Tensor·name
+unfolding fits wireOf Rows·computes
+tensor-name = (λ wire. refl, omega arith)
+
+pub node-output : OfBytes Node Node·output
+unfolding fits wireOf Rows·computes
+node-output = (λ wire. refl, omega arith)
+
+pub first-here : (l : List Field) {f : Field} → some f ≡ first l → List·Memᴰ f l
+unfolding first present
+first-here [] e = absurd (true≢false (ap present e))
+first-here (g ∷ l) {f} e = List·Memᴰ·head (some-same f g e)
+
+module _ {model : Bytes} {kind : Kind} {m : Field} (w : Walked model kind m) {n : ℕ} (row : OfBytes kind n) {f : Field} where
+  -- a name in a message that the first walk passed
+  pub name-there : List·Memᴰ f (allOf n (message model m)) → field model (m .next) (f .place) ≡ pass f → Direct model f
+  name-there here read =
+      let wire : f .wire ≡ LEN = eqb→eq (f .wire) LEN (rw (row .0 (f .wire)) at (walked-fits w n here)) in
+      let small : f .number < 16 = rw (walked-number w n here) (row .1) in
+      let lies = passed-tells (Fits (f .place) (m .next)) (AtTag (f .place)) (field model (m .next) (f .place)) f (field-tells model (m .next) (f .place)) read in
+      let last = lies .3 in
+      let size = w .inside in
+      record { inside = omega arith; ends = lies .2; there = contents-there model (m .next) size (f .place) f read small wire }
+
+  pub name-first : some f ≡ firstOf n (message model m) → Direct model f
+  unfolding firstOf
+  name-first k = name-there (first-here (allOf n (message model m)) k) (first-read model n m k)

@@ -1,9 +1,10 @@
 -- A rule that adds names for each field of one number, as a loop tests it.
 use Prim.Native.Nat.{ℕ, _≤_, _<_, _-_}
 use native.Mathlib.Omega.{arith}
-use mathlib.Core.Path.{_≡_, refl, sym, ap, _∙_}
+use mathlib.Core.Path.{_≡_, refl, sym, ap, subst, _∙_}
 use mathlib.Core.Bool.{Bool}
 use mathlib.Core.List.{List, [], List·Memᴰ}
+use mathlib.Core.Option.{some}
 use lib.ListN.{length}
 use Rattle.varint.specs.Outcome.{pass, Judged}
 use Rattle.varint.specs.Bytes.{Bytes}
@@ -17,11 +18,17 @@ use Rattle.wire.specs.declared.Sought.{Sought}
 use Rattle.wire.specs.declared.Sought.the-variants as sought
 use Rattle.varint.proofs.Answers.{says}
 use Rattle.wire.proofs.Along.{allFrom, Along, along-done, along-fails, along-goes, along-falls, along-read, along-here, along-later}
+use Rattle.schema.specs.declared.Kind.{Kind}
+use Rattle.schema.specs.Rows.{rowOf}
+use Rattle.schema.specs.FirstWalk.{kindOf}
+use Rattle.schema.specs.Opened.{Walked}
+use Rattle.schema.proofs.Opened.{walked-inner}
 use Rattle.rules.specs.Walk.{Context, Walk}
-use Rattle.scope.specs.Scope.{walkIn, stepSays, grows, Keeps}
+use Rattle.scope.specs.Scope.{walkIn, stepSays, grows, Direct, Keeps}
 use Rattle.scope.specs.declared.scopes.Progress.{Progress}
 use Rattle.scope.specs.declared.scopes.Step.{Step}
 use Rattle.scope.specs.declared.scopes.Step.the-variants as step
+use Rattle.scope.proofs.RecordLaws.{OfBytes, name-there}
 use Rattle.scope.proofs.ScopeLaws.{keeps-all, keeps-fewer, keeps-then}
 
 -- the rule, where there is a number of cells
@@ -52,6 +59,19 @@ module _ {model : Bytes} {number end start : ℕ} {rule : Adder} {o : Judged Wal
     pub adding-read : field model end (f .place) ≡ pass f
     adding-read = along-read (g .along) read e
 
+    -- where the loop is over the message that a field holds, which the first walk passed
+    module _ {kind : Kind} {m : Field} (w : Walked model kind m) (at : record { at = start; end = end } ≡ contentsOf m) where
+      pub adding-among : List·Memᴰ f (allOf number (message model m))
+      unfolding allFrom allOf message contentsOf
+      adding-among = subst (λ (d : Cursor). List·Memᴰ f (allFrom model number (d .end) (d .at))) at adding-here
+
+      pub adding-walked : {k : Kind} → kindOf (rowOf kind number) ≡ some k → Walked model k f
+      adding-walked row = walked-inner w number adding-among row
+
+      pub adding-direct : OfBytes kind number → Direct model f
+      unfolding contentsOf
+      adding-direct row = name-there w row adding-among (subst (λ (d : Cursor). field model (d .end) (f .place) ≡ pass f) at adding-read)
+
     -- r is the answer for the field, with the cells `later`
     module _ {later : List ℕ} (r : Step) (answer : stepSays model later r ≡ rule (length cells) (walkIn model cells q) f) (more : grows q r)
         (kept : Keeps (q .used) cells later) where
@@ -77,12 +97,6 @@ module _ {model : Bytes} {number end start : ℕ} {rule : Adder} {o : Judged Wal
 pub adding-start : (model : Bytes) (number : ℕ) (rule : Adder) {o : Judged Walk} (first : List ℕ) (p : Progress) (c : Cursor)
     → Along model number (c .end) (rule (length first)) o (walkIn model first p) c → Adding model number (c .end) (c .at) rule o first p first p c
 adding-start model number rule first p c a = record { along = a; grown = omega arith; kept = keeps-all _ _; within = λ f m. m }
-
--- where the loop is over the message that a field holds
-pub among : (model : Bytes) (number : ℕ) (m : Field) {c : Cursor} → c ≡ contentsOf m
-    → {f : Field} → List·Memᴰ f (allFrom model number (c .end) (c .at)) → List·Memᴰ f (allOf number (message model m))
-unfolding allFrom allOf message contentsOf
-among model number m e h = rw e at h
 
 -- a graph of which nothing is known but whether it is the main one
 abbrev pub plain : Bool → Context

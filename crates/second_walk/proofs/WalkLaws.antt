@@ -1,7 +1,7 @@
 -- The second walk from the header on, in the order of the code's tests.
 use Prim.Native.Nat.{ℕ, _^_, _<_}
 use native.Mathlib.Omega.{arith}
-use mathlib.Core.Path.{_≡_, sym, ap, _∙_}
+use mathlib.Core.Path.{_≡_, sym, ap, subst, _∙_}
 use mathlib.Core.Bool.{Bool, true}
 use mathlib.Core.List.{List}
 use mathlib.Core.Option.{Option, none, some}
@@ -9,7 +9,7 @@ use lib.ListN.{length}
 use Rattle.varint.specs.Outcome.{pass, _>>=_, _>>_, Judged, refused}
 use Rattle.varint.specs.Bytes.{Bytes}
 use Rattle.wire.specs.Wire.{field}
-use Rattle.wire.specs.Message.{firstOf, message, whole}
+use Rattle.wire.specs.Message.{allOf, firstOf, message, whole}
 use Rattle.wire.specs.Answers.{soughtSays, foundIn}
 use Rattle.varint.specs.declared.Refusal.{Refusal}
 use Rattle.wire.specs.declared.Field.{Field}
@@ -19,7 +19,11 @@ use Rattle.wire.specs.declared.Sought.the-variants as sought
 use Rattle.varint.proofs.Passing.{passed-tells}
 use Rattle.wire.proofs.Reading.{Fits, AtTag, field-tells}
 use Rattle.wire.proofs.MessageLaws.{missing, found, first-read}
+use Rattle.schema.specs.declared.Kind.the-variants.{Model, Graph}
 use Rattle.schema.specs.Numbers.{Model·graph}
+use Rattle.schema.specs.FirstWalk.{firstWalk}
+use Rattle.schema.specs.Opened.{Walked}
+use Rattle.schema.proofs.Opened.{walked-inner, walked-whole, model-graph}
 use Rattle.schema.specs.Answers.{silent}
 use Rattle.rules.specs.Walk.{Walk, start}
 use Rattle.rules.specs.Graph.{graph}
@@ -31,6 +35,7 @@ use Rattle.values.specs.declared.Ruling.{Ruling}
 use Rattle.values.specs.declared.Ruling.the-variants as ruling
 use Rattle.scope.specs.declared.scopes.Progress.{Progress}
 use Rattle.scope.specs.declared.scopes.Step.{Step}
+use Rattle.scope.proofs.RecordLaws.{first-here}
 use Rattle.headers.proofs.Silent.{silent-fails, silent-passes}
 use Rattle.values.proofs.RulingLaws.{ruled-kept, ruled-refused}
 use Rattle.headers.proofs.HeaderLaws.{header-imports}
@@ -77,16 +82,20 @@ module _ (model list : Bytes) (full : ℕ → Bool) where
           ∙ mained (found model Model·graph m a read u)
 
 -- the walk may go into the main graph
-pub main-enters : (model : Bytes) → length model < 2 ^ 32 → {m : Field} → m ≡ whole model → (a : Sought)
+pub main-enters : (model : Bytes) → length model < 2 ^ 32 → firstWalk model ≡ pass tt → {m : Field} → m ≡ whole model → (a : Sought)
     → soughtSays a ≡ foundIn (m .next) (firstOf Model·graph (message model m)) → {g : Field} {next : Cursor} → a ≡ sought.Found g next
-    → Enters model Outset g
-unfolding whole
-main-enters model h {m} em a read {g} u = record { short = h; inside = omega (arith, fits .3, ends); tagged = fits .1; ends = fits .2; few = omega arith }
+    → Enters model Graph Outset g
+unfolding firstOf
+main-enters model h passed {m} em a read {g} u = record {
+  short = h;
+  walked = walked-inner (subst (Walked model Model) (sym em) (walked-whole model passed)) Model·graph
+      (first-here (allOf Model·graph (message model m)) (found model Model·graph m a read u)) model-graph;
+  tagged = fits .1;
+  ends = fits .2;
+  few = omega arith;
+}
   where
     fits : Fits (g .place) (m .next) g
     fits =
         passed-tells (Fits (g .place) (m .next)) (AtTag (g .place)) (field model (m .next) (g .place)) g (field-tells model (m .next) (g .place))
         (first-read model Model·graph m (found model Model·graph m a read u))
-
-    ends : m .next ≡ length model
-    ends = ap (λ (f : Field). f .next) em

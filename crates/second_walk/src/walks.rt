@@ -3,7 +3,9 @@ ghost use mathlib.Core.Path.{_≡_};
 ghost use Prim.Native.Nat.{_^_, _<_};
 ghost use lib.ListN.{length, drop};
 ghost use Rattle.wire.specs.Message.{message, whole};
+ghost use Rattle.varint.specs.Outcome.{pass};
 ghost use Rattle.schema.specs.Answers.{silent};
+ghost use Rattle.schema.specs.FirstWalk.{firstWalk};
 ghost use Rattle.rules.specs.Header.{header, secondWalk};
 ghost use Rattle.rules.specs.Verdict.{fills};
 ghost use Rattle.scope.specs.Scope.{stepSays};
@@ -53,6 +55,7 @@ pub fn second_walk(
 ) -> Step
     requires { ⌜ Recalling (now model) ix (now cells) (now extra) ⌝ }
     requires { ⌜ length (now model) < 2 ^ 32 ⌝ }
+    requires { ⌜ firstWalk (now model) ≡ pass tt ⌝ }
     ensures answer { λ r. ⌜ stepSays (now (model .entry)) (now (cells .exit)) r ≡ secondWalk (now (model .entry)) (now (list .entry)) (fills (length (now (cells .entry)))) ⌝ }
     ensures size { λ _. ⌜ length (now (cells .exit)) ≡ length (now (cells .entry)) ⌝ }
 {

@@ -135,3 +135,12 @@ module _ (model : Bytes) (empty number : ℕ) (m : Field) (n : Naming) (e : nami
       let unnamed = T-false _ (passed-rule empty _ _ (passed-seq _ _ _ passed .0)) in
       let read = pass-same _ _ (passed-seq _ _ _ (passed-seq _ _ _ passed .1) .1) in
       ap (λ (x : Name). isEmpty (x .bytes)) (sym read) ∙ unnamed
+
+  -- it is the message's first field of the number
+  pub named-first : {g : Field} → n ≡ naming-answer.Named g → some g ≡ firstOf number (message model m)
+  unfolding namingSays nameField _>>=_
+  named-first {g} k = go (naming model empty number (message model m)) (says namingSays e k)
+    where
+      go : (o : Judged Name) → pass (some g) ≡ (o >>= λ _. pass (firstOf number (message model m))) → some g ≡ firstOf number (message model m)
+      go (pass x) v = pass-same _ _ v
+      go (fail r) v = absurd (fail-no-pass _ _ (sym v))

@@ -1,6 +1,7 @@
 use mathlib.Core.Path.{_∙_}
 use borrow.Author.Tests.{not-true, not-false}
 use Rattle.values.specs.Answers.{rulingSays}
+use Rattle.values.proofs.NameLaws.{empty-some}
 use Rattle.nodes.proofs.NodeLaws.{input-out, input-bad, input-visible, input-hidden}
 use borrow.Author.Needs.{needs}
 use Rattle.nodes.proofs.nodes.node_input.Statement.{statement}
@@ -38,6 +39,13 @@ returns-4 c =
     let c6 = c5 .before in
     c .refused2 .ensures ∙ input-hidden _ _ _ (c6 .text .ensures) (c5 .if1 .left) (c4 .is-identifier .ensures) (not-false _ (c3 .if2 .left)) (c2 .sees .ensures) (c1 .if3 .left)
 
+sees-requires : tie.Need-sees-requires
+sees-requires c κs =
+    let c2 = c .before .before in
+    let c3 = c2 .before in
+    let entry = c3 .before .before .before .before in
+    (entry .pre, empty-some _ (c2 .if1 .left))
+
 pub node-input-spec : {M : Type 1} → statement M
 node-input-spec =
     tie.close
@@ -47,7 +55,7 @@ node-input-spec =
     (λ c κs. search needs)
     (λ c κs. search needs)
     returns-2
-    (λ c κs. search needs)
+    sees-requires
     returns-3
     (λ c κs. search needs)
     returns-4)

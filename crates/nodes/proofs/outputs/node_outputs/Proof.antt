@@ -3,20 +3,21 @@ use Prim.Native.Nat.{_-_}
 use mathlib.Core.Path.{_∙_}
 use lib.ListN.{length}
 use Rattle.varint.specs.Outcome.{each}
-use Rattle.wire.proofs.Along.{allFrom, along-start, along-contents, contents-inside}
+use Rattle.wire.proofs.Along.{allFrom, along-start, along-contents}
 use Rattle.schema.specs.Numbers.{Node·output}
 use Rattle.rules.specs.Verdict.{fills}
 use Rattle.rules.specs.Node.{nodeOutput}
 use Rattle.scope.specs.Scope.{walkIn}
 use Rattle.scope.specs.Recall.{Recalled}
-use Rattle.scope.proofs.StepLaws.{Adding, adding-start, adding-done, adding-falls, adding-placed, adding-named, adding-stops, adding-goes}
+use Rattle.scope.proofs.RecordLaws.{node-output}
+use Rattle.scope.proofs.StepLaws.{Adding, adding-start, adding-done, adding-falls, adding-direct, adding-stops, adding-goes}
 use borrow.Author.Needs.{needs}
 use Rattle.nodes.proofs.outputs.node_outputs.Statement.{statement}
 use Rattle.nodes.proofs.outputs.node_outputs.Tie as tie
 
 abbrev Inv-loop : tie.InvT-loop
 Inv-loop model cells₀ extra₀ ix c₀ q₀ cells extra c q =
-    Adding model Node·output (c₀ .end) (λ n. nodeOutput model (fills n)) (each (nodeOutput model (fills (length cells₀))) (walkIn model cells₀ q₀)
+    Adding model Node·output (c₀ .end) (c₀ .at) (λ n. nodeOutput model (fills n)) (each (nodeOutput model (fills (length cells₀))) (walkIn model cells₀ q₀)
     (allFrom model Node·output (c₀ .end) (c₀ .at))) cells₀ q₀ cells q c × Recalled model ix cells extra₀ extra
 
 abbrev μ-loop : tie.MeasureT-loop
@@ -47,13 +48,8 @@ node-output-requires c κs =
     let loop = c5 .before in
     let c7 = loop .before in
     let entry = c7 .before .before .before .before in (
-      adding-placed (loop .loop .inv .0) (c5 .next-of .ensures) (c3 .sought .given .1) _ (entry .pre .0) (contents-inside _ _ (c7 .contents .ensures)
-          (entry .pre .1 .0)),
-      (
-        adding-named (loop .loop .inv .0) (c5 .next-of .ensures) (c3 .sought .given .1)
-            (contents-inside _ _ (c7 .contents .ensures) (entry .pre .1 .0)),
-        (entry .pre .0, loop .loop .inv .1 .recalls),
-      ),
+      adding-direct (loop .loop .inv .0) (c5 .next-of .ensures) (c3 .sought .given .1) (entry .pre .1 .0) (c7 .contents .ensures) node-output,
+      (entry .pre .0, loop .loop .inv .1 .recalls),
     )
 
 returns-2 : tie.Need-returns-2 Inv-loop μ-loop

@@ -14,7 +14,7 @@ returns c =
     let c1 = c .before in
     let c2 = c1 .before in
     let entry = c2 .before .before .before .before .before .before in
-    (default-stands _ _ _ _ _ _ _ (c2 .text .ensures) (c1 .is-default .ensures) (c .if1 .taken), (omega arith, (keeps-all _ _, recalled-none (entry .pre .1 .1 .1 .0))))
+    (default-stands _ _ _ _ _ _ _ (c2 .text .ensures) (c1 .is-default .ensures) (c .if1 .taken), (omega arith, (keeps-all _ _, recalled-none (entry .pre .1 .1 .0))))
 
 returns-2 : tie.Need-returns-2
 returns-2 c =
@@ -22,18 +22,17 @@ returns-2 c =
     let c7 = c4 .before .before .before in
     let c8 = c7 .before in
     let c9 = c8 .before in
-    let entry = c9 .before .before .before .before .before .before in
-    (c4 .define .ensures .0 ∙ default-new _ _ _ _ _ _ _ (c9 .text .ensures) (c8 .is-default .ensures) (c7 .if1 .left) (entry .pre .1 .0), c4 .define .ensures .1)
+    (c4 .define .ensures .0 ∙ default-new _ _ _ _ _ _ _ (c9 .text .ensures) (c8 .is-default .ensures) (c7 .if1 .left), c4 .define .ensures .1)
 
 is-default-requires : tie.Need-is-default-requires
 is-default-requires c κs =
     let entry = c .before .before .before .before .before .before in
-    (entry .pre .1 .1 .1 .0, (entry .pre .1 .1 .1 .1 .0, (entry .pre .1 .1 .1 .1 .1 .0, rw (c .text .ensures) (entry .pre .1 .1 .1 .1 .1 .1))))
+    (entry .pre .1 .1 .0, (entry .pre .1 .1 .1 .0, (entry .pre .1 .1 .1 .1 .0, rw (c .text .ensures) (entry .pre .1 .1 .1 .1 .1))))
 
 define-requires : tie.Need-define-requires
 define-requires c κs =
     let entry = c .before .before .before .before .before .before .before .before .before .before in
-    (entry .pre .0, (entry .pre .1 .0, (entry .pre .1 .1 .0, entry .pre .1 .1 .1 .0)))
+    (entry .pre .0, (entry .pre .1 .1 .1 .1 .1, (entry .pre .1 .0, entry .pre .1 .1 .0)))
 
 pub default-or-new-spec : {M : Type 1} → statement M
 default-or-new-spec =

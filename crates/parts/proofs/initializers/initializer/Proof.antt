@@ -1,9 +1,9 @@
-use Rattle.values.proofs.NameLaws.{named-some}
+use Rattle.values.proofs.NameLaws.{named-some, named-first}
 use Rattle.scope.proofs.RecallLaws.{recalled-none}
 use mathlib.Core.Path.{subst, _∙_}
 use Rattle.scope.specs.Scope.{stepSays, grows}
 use Rattle.scope.proofs.ScopeLaws.{keeps-all}
-use Rattle.parts.proofs.InputLaws.{named-there, named-placed}
+use Rattle.scope.proofs.RecordLaws.{tensor-name, name-first}
 use Rattle.parts.proofs.InitializerLaws.{initializer-unnamed, initializer-stops, initializer-mistyped, initializer-goes}
 use borrow.Author.Needs.{needs}
 use Rattle.parts.proofs.initializers.initializer.Statement.{statement}
@@ -14,11 +14,10 @@ default-or-new-requires c κs =
     let c3 = c .before .before .before in
     let c5 = c3 .before .before in
     let entry = c5 .before .before .before .before in (
-      named-placed _ _ _ _ (c5 .read-name .ensures) (c3 .name .given .1) _ (entry .pre .0) (entry .pre .1 .0),
+      name-first (entry .pre .1 .0) tensor-name (named-first _ _ _ _ _ (c5 .read-name .ensures) (c3 .name .given .1)),
       (
-        named-there _ _ _ _ (c5 .read-name .ensures)
-            (c3 .name .given .1) (entry .pre .1 .0),
-        (entry .pre .0, (entry .pre .1 .1 .0, (entry .pre .1 .1 .1 .0, (entry .pre .1 .1 .1 .1, named-some _ _ _ _ _ (c5 .read-name .ensures) (c3 .name .given .1))))),
+        entry .pre .0,
+        (entry .pre .1 .1 .0, (entry .pre .1 .1 .1 .0, (entry .pre .1 .1 .1 .1, named-some _ _ _ _ _ (c5 .read-name .ensures) (c3 .name .given .1)))),
       ),
     )
 

@@ -3,26 +3,26 @@ use Prim.Native.Nat.{_≤_}
 use Rattle.scope.proofs.RecallLaws.{minded-then, minded-recalled}
 use Rattle.parts.proofs.ListsLaws.{Lists, lists-start, lists-fits, lists-found, lists-next}
 use Rattle.parts.proofs.InitializerLaws.{default-kept, used-after}
+use Rattle.schema.proofs.Opened.{graph-initializer}
 use Rattle.schema.specs.Numbers.{Tensor·name}
 use Rattle.scope.specs.Scope.{Defaultable}
 use Prim.Native.Nat.{_-_}
-use native.Mathlib.Nat.{le-trans}
 use mathlib.Core.Path.{_∙_}
 use lib.ListN.{length}
 use Rattle.varint.specs.Outcome.{each}
-use Rattle.wire.proofs.Along.{allFrom, along-start, along-contents, contents-inside}
+use Rattle.wire.proofs.Along.{allFrom, along-start, along-contents}
 use Rattle.schema.specs.Numbers.{Graph·initializer}
 use Rattle.rules.specs.Verdict.{fills}
 use Rattle.scope.specs.Scope.{walkIn}
 use Rattle.messages.specs.Again.{initializerAgain}
-use Rattle.scope.proofs.StepLaws.{Adding, adding-start, adding-done, adding-falls, adding-inside, adding-stops, adding-goes}
+use Rattle.scope.proofs.StepLaws.{Adding, adding-start, adding-done, adding-falls, adding-walked, adding-stops, adding-goes}
 use borrow.Author.Needs.{needs}
 use Rattle.parts.proofs.initializers.initializers.Statement.{statement}
 use Rattle.parts.proofs.initializers.initializers.Tie as tie
 
 abbrev Inv-loop : tie.InvT-loop
 Inv-loop model cells₀ extra₀ ix top main graph inputs c₀ q₀ l₀ cells extra c q l =
-    Adding model Graph·initializer (c₀ .end) (λ n. initializerAgain model (fills n) main graph) (each (initializerAgain model
+    Adding model Graph·initializer (c₀ .end) (c₀ .at) (λ n. initializerAgain model (fills n) main graph) (each (initializerAgain model
     (fills (length cells₀)) main graph) (walkIn model cells₀ q₀) (allFrom model Graph·initializer (c₀ .end) (c₀ .at))) cells₀ q₀ cells q
     c × Lists model ix top Graph·initializer Tensor·name graph extra₀ cells extra l c × Defaultable model main graph cells inputs × (inputs ≤ q .used)
 
@@ -60,8 +60,7 @@ initializer-requires c κs =
     let entry = c7 .before .before .before .before in (
       entry .pre .0,
       (
-        le-trans (adding-inside (loop .loop .inv .0) (c5 .next-of .ensures) (c3 .sought .given .1))
-            (contents-inside _ _ (c7 .contents .ensures) (entry .pre .1 .0)),
+        adding-walked (loop .loop .inv .0) (c5 .next-of .ensures) (c3 .sought .given .1) (entry .pre .1 .0) (c7 .contents .ensures) graph-initializer,
         (loop .loop .inv .1 .minded .recalls, (loop .loop .inv .2, lists-found (loop .loop .inv .1) (c5 .next-of .ensures) (c3 .sought .given .1))),
       ),
     )

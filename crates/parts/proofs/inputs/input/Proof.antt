@@ -1,8 +1,10 @@
 use Rattle.scope.proofs.RecallLaws.{recalled-none}
 use mathlib.Core.Path.{subst}
 use Rattle.scope.specs.Scope.{stepSays, grows}
+use Rattle.values.proofs.NameLaws.{named-some, named-first}
 use Rattle.scope.proofs.ScopeLaws.{keeps-all}
-use Rattle.parts.proofs.InputLaws.{named-there, named-placed, input-unnamed, input-stops, input-mistyped, input-goes}
+use Rattle.scope.proofs.RecordLaws.{value-info-name, name-first}
+use Rattle.parts.proofs.InputLaws.{input-unnamed, input-stops, input-mistyped, input-goes}
 use borrow.Author.Needs.{needs}
 use Rattle.parts.proofs.inputs.input.Statement.{statement}
 use Rattle.parts.proofs.inputs.input.Tie as tie
@@ -12,8 +14,8 @@ define-requires c κs =
     let c3 = c .before .before .before in
     let c5 = c3 .before .before in
     let entry = c5 .before .before .before .before in (
-      named-placed _ _ _ _ (c5 .read-name .ensures) (c3 .name .given .1) _ (entry .pre .0) (entry .pre .1 .0),
-      (named-there _ _ _ _ (c5 .read-name .ensures) (c3 .name .given .1) (entry .pre .1 .0), (entry .pre .0, entry .pre .1 .1)),
+      name-first (entry .pre .1 .0) value-info-name (named-first _ _ _ _ _ (c5 .read-name .ensures) (c3 .name .given .1)),
+      (named-some _ _ _ _ _ (c5 .read-name .ensures) (c3 .name .given .1), (entry .pre .0, entry .pre .1 .1)),
     )
 
 returns : tie.Need-returns
@@ -22,8 +24,7 @@ returns c =
     let c10 = c6 .before .before .before .before in
     let c12 = c10 .before .before in
     let entry = c12 .before .before .before .before in (
-      λ k e. let there = named-there _ _ _ _ (c12 .read-name .ensures) (c10 .name .given .1) (entry .pre .1 .0) in
-          input-stops _ _ k _ _ _ (c12 .read-name .ensures) (c10 .name .given .1) there _ _ (c6 .define .ensures .0) (c .enum-told .given .1),
+      λ k e. input-stops _ _ k _ _ _ (c12 .read-name .ensures) (c10 .name .given .1) _ _ (c6 .define .ensures .0) (c .enum-told .given .1),
       c6 .define .ensures .1,
     )
 
@@ -45,8 +46,8 @@ returns-3 c =
     let c15 = c11 .before .before .before .before in
     let c17 = c15 .before .before in
     let entry = c17 .before .before .before .before in (
-      λ k e. let there = named-there _ _ _ _ (c17 .read-name .ensures) (c15 .name .given .1) (entry .pre .1 .0) in input-mistyped _ _ k _ _ _
-          (c17 .read-name .ensures) (c15 .name .given .1) there _ _ (c11 .define .ensures .0) (c5 .step .given .1) _ (c3 .main-type .ensures k e)
+      λ k e. input-mistyped _ _ k _ _ _
+          (c17 .read-name .ensures) (c15 .name .given .1) _ _ (c11 .define .ensures .0) (c5 .step .given .1) _ (c3 .main-type .ensures k e)
           (c1 .r2 .given .1),
       (tt, c11 .define .ensures .1 .1),
     )
@@ -60,8 +61,8 @@ returns-4 c =
     let c14 = c10 .before .before .before .before in
     let c16 = c14 .before .before in
     let entry = c16 .before .before .before .before in (
-      λ k e. let there = named-there _ _ _ _ (c16 .read-name .ensures) (c14 .name .given .1) (entry .pre .1 .0) in input-goes _ _ k _ _ _
-          (c16 .read-name .ensures) (c14 .name .given .1) there _ _ (c10 .define .ensures .0) (c4 .step .given .1) _ (c2 .main-type .ensures k e)
+      λ k e. input-goes _ _ k _ _ _
+          (c16 .read-name .ensures) (c14 .name .given .1) _ _ (c10 .define .ensures .0) (c4 .step .given .1) _ (c2 .main-type .ensures k e)
           (c .enum-told2 .given .1),
       (subst (grows _) (c4 .step .given .1) (c10 .define .ensures .1 .0), c10 .define .ensures .1 .1),
     )

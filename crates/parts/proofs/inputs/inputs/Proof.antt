@@ -1,10 +1,10 @@
 use Rattle.scope.proofs.RecallLaws.{recalled-none, recalled-then}
 use Prim.Native.Nat.{_-_}
-use native.Mathlib.Nat.{le-trans}
 use mathlib.Core.Path.{refl, _∙_}
 use lib.ListN.{length}
 use Rattle.varint.specs.Outcome.{each}
-use Rattle.wire.proofs.Along.{allFrom, along-start, along-contents, contents-inside}
+use Rattle.wire.proofs.Along.{allFrom, along-start, along-contents}
+use Rattle.schema.proofs.Opened.{graph-input}
 use Rattle.schema.specs.Numbers.{Graph·input}
 use Rattle.rules.specs.Verdict.{fills}
 use Rattle.rules.specs.Graph.{input}
@@ -12,14 +12,14 @@ use Rattle.scope.specs.Scope.{walkIn}
 use Rattle.scope.specs.Recall.{Recalled}
 use Rattle.scope.proofs.StepLaws.{plain}
 use Rattle.parts.proofs.InputLaws.{inputs-any}
-use Rattle.scope.proofs.StepLaws.{Adding, adding-start, adding-done, adding-falls, adding-inside, adding-stops, adding-goes}
+use Rattle.scope.proofs.StepLaws.{Adding, adding-start, adding-done, adding-falls, adding-walked, adding-stops, adding-goes}
 use borrow.Author.Needs.{needs}
 use Rattle.parts.proofs.inputs.inputs.Statement.{statement}
 use Rattle.parts.proofs.inputs.inputs.Tie as tie
 
 abbrev Inv-loop : tie.InvT-loop
 Inv-loop model cells₀ extra₀ ix main c₀ q₀ cells extra c q =
-    Adding model Graph·input (c₀ .end) (λ n. input model (fills n) (plain main)) (each (input model (fills (length cells₀)) (plain main)) (walkIn model
+    Adding model Graph·input (c₀ .end) (c₀ .at) (λ n. input model (fills n) (plain main)) (each (input model (fills (length cells₀)) (plain main)) (walkIn model
     cells₀ q₀) (allFrom model Graph·input (c₀ .end) (c₀ .at))) cells₀ q₀ cells q c × Recalled model ix cells extra₀ extra
 
 abbrev μ-loop : tie.MeasureT-loop
@@ -52,8 +52,7 @@ input-requires c κs =
     let entry = c7 .before .before .before .before in (
       entry .pre .0,
       (
-        le-trans (adding-inside (loop .loop .inv .0) (c5 .next-of .ensures) (c3 .sought .given .1))
-            (contents-inside _ _ (c7 .contents .ensures) (entry .pre .1 .0)),
+        adding-walked (loop .loop .inv .0) (c5 .next-of .ensures) (c3 .sought .given .1) (entry .pre .1 .0) (c7 .contents .ensures) graph-input,
         loop .loop .inv .1 .recalls,
       ),
     )

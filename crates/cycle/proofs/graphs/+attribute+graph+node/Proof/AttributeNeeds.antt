@@ -1,16 +1,18 @@
 -- attribute: its claims, its loop's invariant, and each need that is not found by search.
 use Prim.Native.Nat.{ℕ, _-_}
-use mathlib.Core.Path.{_∙_}
+use mathlib.Core.Path.{sym, _∙_}
 use lib.ListN.{length}
 use borrow.Author.Tests.{not-true, not-false}
 use Rattle.varint.specs.Outcome.{each}
+use Rattle.varint.proofs.Lists.{true-T}
 use Rattle.wire.specs.Answers.{contentsOf}
 use Rattle.wire.proofs.Along.{allFrom}
 use Rattle.rules.specs.Node.{body}
 use Rattle.scope.specs.Scope.{walkIn}
 use Rattle.scope.specs.Recall.{Minds, Minded}
 use Rattle.scope.proofs.RecallLaws.{minded-none, minded-then, minds-still}
-use Rattle.cycle.proofs.CycleLaws.{Going, enters-low, going-start, going-falls, going-enters, going-shorter}
+use Rattle.schema.proofs.Opened.{attribute-body}
+use Rattle.cycle.proofs.CycleLaws.{Going, enters-low, own-contents, going-start, going-falls, going-enters, going-shorter}
 use Rattle.cycle.proofs.PromiseLaws.{promised-and, not-main}
 use Rattle.cycle.proofs.GraphLaws.{Nested, attribute-stops, attribute-plain, bodies-done, bodies-stop, bodies-go}
 use Rattle.cycle.proofs.graphs.attribute.Reads as attribute
@@ -130,12 +132,14 @@ attribute-graph-requires t c κs =
     let c5 = c3 .before .before in
     let loop = c5 .before in
     let c7 = loop .before in
-    let entry = c7 .before .before .before .before .before .before .before .before .before .before .before .before in
+    let c8 = c7 .before in
+    let c9 = c8 .before in
+    let entry = c9 .before .before .before .before .before .before .before .before .before .before in
     let g = rw (c7 .contents .ensures) at (loop .loop .inv .0) in (
       going-shorter g (c5 .next-of .ensures) (c3 .sought .given .1) (entry .pre .0),
       (
-        going-enters g (c5 .next-of .ensures) (c3 .sought .given .1) (entry .pre .1 .0 .short) (entry .pre .1 .0 .inside)
-            (enters-low (entry .pre .1 .0)),
+        going-enters g (c5 .next-of .ensures) (c3 .sought .given .1) (entry .pre .1 .0 .short) (entry .pre .1 .0 .walked)
+            (own-contents (entry .args .f)) (attribute-body _ (true-T _ (sym (c9 .is-body .ensures) ∙ not-false _ (c8 .if1 .left)))) (enters-low (entry .pre .1 .0)),
         (loop .loop .inv .1, λ e. not-main e),
       ),
     )

@@ -15,7 +15,8 @@ use Rattle.messages.specs.Again.{context, nodeAgain}
 use Rattle.scope.proofs.ScopeLaws.{keeps-all}
 use Rattle.scope.proofs.RecallLaws.{minded-none, minded-then, minded-fewer, minds-still, minds-higher}
 use Rattle.parts.proofs.ListsLaws.{Lists, lists-start, lists-fits, lists-found, lists-next, lists-minds}
-use Rattle.cycle.proofs.CycleLaws.{Going, going-start, going-falls, going-enters, going-shorter, going-goes}
+use Rattle.schema.proofs.Opened.{graph-node}
+use Rattle.cycle.proofs.CycleLaws.{Going, own-contents, going-start, going-falls, going-enters, going-shorter, going-goes}
 use Rattle.cycle.proofs.PromiseLaws.{promised-and, stopped-counts}
 use Rattle.cycle.proofs.GraphLaws.{Nested}
 use Rattle.cycle.proofs.GraphLaws.{graph-deep, graph-unopened, first-low, nodes-stop, nodes-done}
@@ -75,7 +76,7 @@ graph-returns t c =
 pub graph-opening-requires : (t : ℕ) → graph-lts.Need-opening-requires (graph-claims t) (graph-at t) graph.Post graph-Inv-loop graph-μ-loop
 graph-opening-requires t c κs =
     let entry = c .before .before .before .before .before .before in
-    (entry .pre .1 .0 .short, (entry .pre .1 .0 .inside, (entry .pre .1 .1 .0 .recalls, (entry .pre .1 .1 .0 .fits, entry .pre .1 .1 .1))))
+    (entry .pre .1 .0 .short, (entry .pre .1 .0 .walked, (entry .pre .1 .1 .0 .recalls, (entry .pre .1 .1 .0 .fits, entry .pre .1 .1 .1))))
 
 pub graph-returns-2 : (t : ℕ) → graph-lts.Need-returns-2 (graph-claims t) (graph-at t) graph.Post graph-Inv-loop graph-μ-loop
 graph-returns-2 t c =
@@ -145,8 +146,8 @@ graph-node-requires t c κs =
     let entry = c18 .before .before .before .before in (
       going-shorter (loop .loop .inv .0) (c5 .next-of .ensures) (c3 .sought .given .1) (entry .pre .0),
       (
-        going-enters (loop .loop .inv .0) (c5 .next-of .ensures) (c3 .sought .given .1) (entry .pre .1 .0 .short) (entry .pre .1 .0 .inside)
-            (first-low _ _ _ _ _ _ (c18 .if1 .left) _ _ (c15 .opening .ensures .0) (c15 .opening .ensures .1 .1 .0) (c9 .opened .given .1)
+        going-enters (loop .loop .inv .0) (c5 .next-of .ensures) (c3 .sought .given .1) (entry .pre .1 .0 .short) (entry .pre .1 .0 .walked)
+            (own-contents _) graph-node (first-low _ _ _ _ _ _ (c18 .if1 .left) _ _ (c15 .opening .ensures .0) (c15 .opening .ensures .1 .1 .0) (c9 .opened .given .1)
             (entry .pre .1 .0)),
         (
           minds-higher (loop .loop .inv .2) (loop .loop .inv .1 .above) (lists-fits (loop .loop .inv .1)),

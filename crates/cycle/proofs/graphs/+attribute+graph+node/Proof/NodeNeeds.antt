@@ -12,7 +12,8 @@ use Rattle.scope.specs.Recall.{Minds}
 use Rattle.messages.specs.Again.{attributeAgain}
 use Rattle.scope.proofs.RecallLaws.{minded-none, minded-recalled, minded-then, minded-fewer, minds-higher}
 use Rattle.parts.proofs.ListsLaws.{Lists, lists-start, lists-fits, lists-found, lists-next, lists-minds}
-use Rattle.cycle.proofs.CycleLaws.{Going, enters-low, going-start, going-falls, going-enters, going-shorter, going-goes}
+use Rattle.schema.proofs.Opened.{node-attribute}
+use Rattle.cycle.proofs.CycleLaws.{Going, enters-low, own-contents, going-start, going-falls, going-enters, going-shorter, going-goes}
 use Rattle.cycle.proofs.PromiseLaws.{promised-and}
 use Rattle.cycle.proofs.GraphLaws.{Nested, node-stops}
 use Rattle.cycle.proofs.GraphLaws.{attributes-stop, attributes-done, node-low}
@@ -82,7 +83,7 @@ pub node-closing-requires : (t : ℕ) → node-lts.Need-closing-requires (node-c
 node-closing-requires t c κs =
     let loop = c .before .before .before .before .before in
     let entry = loop .before .before .before .before .before .before .before .before .before .before in
-    (entry .pre .1 .0 .short, (entry .pre .1 .0 .inside, (node-low (loop .loop .inv .0) (entry .pre .1 .0), loop .loop .inv .1 .minded .recalls)))
+    (entry .pre .1 .0 .short, (entry .pre .1 .0 .walked, (node-low (loop .loop .inv .0) (entry .pre .1 .0), loop .loop .inv .1 .minded .recalls)))
 
 pub node-same-length-3 : (t : ℕ) → node-lts.Need-same-length-3 (node-claims t) (node-at t) node.Post node-Inv-loop node-μ-loop
 node-same-length-3 t c =
@@ -118,8 +119,8 @@ node-attribute-requires t c κs =
     let entry = loop .before .before .before .before .before .before .before .before .before .before in (
       going-shorter (loop .loop .inv .0) (c5 .next-of .ensures) (c3 .sought .given .1) (entry .pre .0),
       (
-        going-enters (loop .loop .inv .0) (c5 .next-of .ensures) (c3 .sought .given .1) (entry .pre .1 .0 .short) (entry .pre .1 .0 .inside)
-            (enters-low (entry .pre .1 .0)),
+        going-enters (loop .loop .inv .0) (c5 .next-of .ensures) (c3 .sought .given .1) (entry .pre .1 .0 .short) (entry .pre .1 .0 .walked)
+            (own-contents _) node-attribute (enters-low (entry .pre .1 .0)),
         (
           minds-higher (loop .loop .inv .2) (loop .loop .inv .1 .above) (lists-fits (loop .loop .inv .1)),
           lists-found (loop .loop .inv .1) (c5 .next-of .ensures) (c3 .sought .given .1),
