@@ -103,7 +103,8 @@ fn both_definitions() {
     let model = |fields: &[&[u8]]| {
         [&b"\x08\x08\x42\x02\x10\x0D"[..], &field_of(7, &[b"\x12\x01g", &fields.concat()[..]].concat())].concat()
     };
-    let (input, default) = (field_of(11, b"\x0A\x01w\x12\x06\x0A\x04\x08\x01\x12\x00"), field_of(5, b"\x42\x01w\x10\x01"));
+    let input = field_of(11, b"\x0A\x01w\x12\x06\x0A\x04\x08\x01\x12\x00");
+    let default = field_of(5, b"\x42\x01w\x10\x01");
     let node = |output: &[u8], more: &[u8]| field_of(1, &[&field_of(2, output), &b"\x22\x01X"[..], more].concat());
     let body = |graph: &[u8]| field_of(5, &[b"\x0A\x01k", &field_of(6, graph)[..], b"\xA0\x01\x05"].concat());
     let (inner, twice) = (node(b"b", b""), node(b"w", b""));
