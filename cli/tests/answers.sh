@@ -57,8 +57,9 @@ as_json() {
 both_places() {
     local twice=$root/examples/23-defined-twice.onnx default=$root/examples/23-default-twice.onnx file
     local line=': refused 23 at 159 first 135' json='*"refusal":23,"place":159,"first":135,*'
+    local note='  note   defined first at 135, graph > node?0? "dense1" > output?0?'
     for more in --cells=26 --cells=27 --seed=0 --seed=7; do
-        try 1 "$twice$line"$'\n*\n  note   defined first at 135, graph > node\\[0\\] "dense1" > output\\[0\\]\n*' '' check $more "$twice"
+        try 1 "$twice$line"$'\n*\n'"$note"$'\n*' '' check $more "$twice"
         try 1 "$json" '' check --json $more "$twice"
     done
     try 1 "$twice$line" '' check -q "$twice"
