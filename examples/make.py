@@ -66,6 +66,9 @@ def initializer(name, data_type=FLOAT, dims=(), raw=bytes(4)):
     return part(5, b"".join(number(1, d) for d in dims) + number(2, data_type) + part(8, name) + part(9, raw))
 
 
+WEIGHTS = initializer("w", dims=(4, 4), raw=bytes(64))
+
+
 def padded_length(name):
     """A tensor whose length takes as many bytes as the longest."""
     contents = number(2, FLOAT) + part(8, name) + part(9, bytes(4))
@@ -127,7 +130,7 @@ def tagger(step=None, then_branch=None, else_branch=None):
 def layer(*nodes, inputs=None, outputs=None):
     """A small network: weights `w` and the given nodes between `x` and `y`."""
     fields = inputs or [graph_input("x")]
-    fields += [initializer("w", dims=(4, 4), raw=bytes(64)), *nodes]
+    fields += [WEIGHTS, *nodes]
     return graph("network", *fields, *(outputs or [graph_output("y")]))
 
 
@@ -182,6 +185,8 @@ MODELS = {
     "21-name-with-slash": model(layer(node("MatMul", ["x", "w"], ["/dense/out"]), node("Relu", ["/dense/out"], ["y"]))),
     "22-input-without-name": model(chain(inputs=[graph_input("")])),
     "23-defined-twice": model(layer(DENSE, node("Tanh", ["h"], ["h"], name="tanh1"), RELU)),
+    "23-default-twice": model(layer(WEIGHTS, DENSE, RELU, inputs=[graph_input("x"), graph_input("w", dims=(4, 4))])),
+    "23-inputs-last": model(graph("network", WEIGHTS, node("MatMul", ["x", "w"], ["x"], name="dense1"), graph_input("x"))),
     "24-output-without-type": model(chain(outputs=[part(12, part(1, "y"))])),
     "25-bad-element-type": model(chain(inputs=[graph_input("x", elem_type=0)])),
     "26-bad-data-type": model(layer(initializer("b", data_type=99), DENSE, RELU)),

@@ -8,7 +8,7 @@
 #include <sys/random.h>
 
 #define MOST 2147483648u /* one byte more than may be accepted, so that no model passes because it was cut */
-#define FIRST 65536      /* the most cells of a first try: a file that only claims many names costs no more */
+#define FIRST 65536      /* the most names of a first try: a file that only claims more of them costs no more */
 
 /* what `operators '' 7 21 ai.onnx.ml 1 5` writes */
 static const uint8_t operators[] = {0,   0,   0,   31,  1,   0,   8,   0,   0,   0,   7, 0, 0, 0, 21, 0, 18, 'a',
@@ -46,9 +46,9 @@ static uint8_t *read_model(FILE *file, size_t *length)
     return model;
 }
 
-static struct onnx_gate_answer check_with(const uint8_t *model, size_t length, size_t cells, size_t lists, uint64_t seed)
+static struct onnx_gate_answer check_with(const uint8_t *model, size_t length, size_t names, size_t lists, uint64_t seed)
 {
-    size_t extra = 4 * cells + 2 + 4 * lists;
+    size_t cells = ONNX_GATE_CELLS_PER_NAME * names, extra = onnx_gate_extra_for(cells, lists);
     uint32_t *lent = (uint32_t *)resized(NULL, (cells + extra) * sizeof *lent);
     struct onnx_gate_answer answer = onnx_gate_check_indexed(model, length, operators, sizeof operators, lent, cells,
                                                              lent + cells, extra, seed);
@@ -56,17 +56,27 @@ static struct onnx_gate_answer check_with(const uint8_t *model, size_t length, s
     return answer;
 }
 
-/* With few cells first, and with more as long as the answer is 40: no other answer depends on them. */
+/* With cells for few names first, and with more as long as the answer is 40: no other answer depends on them. */
 static struct onnx_gate_answer check(const uint8_t *model, size_t length, uint64_t seed)
 {
     struct onnx_gate_need need = onnx_gate_needed(model, length);
-    size_t cells = need.names < FIRST ? need.names : FIRST;
-    struct onnx_gate_answer answer = check_with(model, length, cells, need.lists, seed);
-    while (answer.refusal == ONNX_GATE_CELLS_FULL && cells < need.names) {
-        cells = need.names / 8 < cells ? need.names : 8 * cells;
-        answer = check_with(model, length, cells, need.lists, seed);
+    size_t names = need.names < FIRST ? need.names : FIRST;
+    struct onnx_gate_answer answer = check_with(model, length, names, need.lists, seed);
+    while (answer.refusal == ONNX_GATE_CELLS_FULL && names < need.names) {
+        names = need.names / 8 < names ? need.names : 8 * names;
+        answer = check_with(model, length, names, need.lists, seed);
     }
     return answer;
+}
+
+static void print(struct onnx_gate_answer answer)
+{
+    if (answer.refusal == ONNX_GATE_ACCEPTED)
+        printf("accepted nodes %" PRIu64 " names %" PRIu64 "\n", answer.nodes, answer.names);
+    else if (answer.refusal == ONNX_GATE_ALREADY_VISIBLE)
+        printf("refused %" PRIu64 " at %" PRIu64 " first %" PRIu64 "\n", answer.refusal, answer.place, answer.first);
+    else
+        printf("refused %" PRIu64 " at %" PRIu64 "\n", answer.refusal, answer.place);
 }
 
 int main(int argc, char **argv)
@@ -84,9 +94,6 @@ int main(int argc, char **argv)
         fail();
     model = read_model(file, &length);
     answer = check(model, length, seed);
-    if (answer.refusal == 0)
-        printf("accepted nodes %" PRIu64 " names %" PRIu64 "\n", answer.nodes, answer.names);
-    else
-        printf("refused %" PRIu64 " at %" PRIu64 "\n", answer.refusal, answer.place);
-    return answer.refusal != 0;
+    print(answer);
+    return answer.refusal != ONNX_GATE_ACCEPTED;
 }

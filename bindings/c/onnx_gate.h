@@ -19,17 +19,24 @@
 /* Of the header and of the library, as of the bindings for Rust and Python. */
 #define ONNX_GATE_VERSION "0.1.0"
 
+/* How many cells a visible name takes: its place and its length. Half of the cells, rounded down, is how many names may be visible
+ * together; one cell holds none. */
+#define ONNX_GATE_CELLS_PER_NAME 2
+
 #ifdef __cplusplus
 extern "C" {
 #endif
 
-/* An answer: accepted with two counts, or refused with a number and a place. What does not apply is 0. */
+/* An answer: accepted with two counts, or refused with a number and a place, and 23 with a second place. What does not apply is 0. */
 struct onnx_gate_answer {
     uint64_t refusal; /* 0: accepted. Else one of the numbers below. */
     uint64_t place;   /* refused: the byte of the model at which the field at fault begins; for something absent, the message
                          that lacks it, 0 being the model. 7, 8 and 65 have place 0. Always below 2^31. */
     uint64_t nodes;   /* accepted: how many nodes all graphs have. */
-    uint64_t names;   /* accepted: the most names visible together. With fewer cells than this the model is refused with 40. */
+    uint64_t names;   /* accepted: the most names visible together. With fewer than two cells for each it is refused with 40. */
+    uint64_t first;   /* refused with 23: the place of the definition that is already visible, as `place` the byte at which the
+                         field that holds the name begins; of an input with a default it is the input's. It may lie behind
+                         `place`, as inputs are judged before initializers and these before nodes wherever they stand. */
 };
 
 /* The refusals. Of several that apply the first is told: 65, which is for onnx_gate_check_indexed only; 7; 8; the first of 1 to 6
@@ -73,7 +80,7 @@ enum onnx_gate_refusal {
     ONNX_GATE_OUTPUT_NOT_VISIBLE = 35,  /* the graph's output is a name that nothing visible defines */
     ONNX_GATE_NO_SHAPE = 37,            /* a tensor type of the main graph must have a shape */
     ONNX_GATE_NEGATIVE_DIM = 38,        /* a dim_value is negative */
-    ONNX_GATE_CELLS_FULL = 40,          /* more names are visible together than there are cells */
+    ONNX_GATE_CELLS_FULL = 40,          /* more names are visible together than fit in the cells, two for each */
     ONNX_GATE_TOO_FEW_EXTRA = 65        /* a program lent the indexed check fewer extra cells than four times its cells */
 };
 
@@ -84,9 +91,9 @@ enum onnx_gate_refusal {
  *                                that count all that follows, the byte 1, then entries: two bytes that count the rest of
  *                                the entry, the domain, lowest version (four bytes), highest version (four bytes).
  *   cells, cells_length          working space, counted in cells of 32 bits, aligned as uint32_t is, apart from model and list. A
- *                                cell holds one visible name, so that their number bounds how many may be visible together, and
- *                                has no other effect. What they hold before does not matter; whatever the answer, all are 0
- *                                when the call returns.
+ *                                visible name takes two cells, so that their number bounds how many may be visible together,
+ *                                cells_length / 2, and has no other effect. What they hold before does not matter; whatever
+ *                                the answer, all are 0 when the call returns.
  */
 struct onnx_gate_answer onnx_gate_check(const uint8_t *model, size_t model_length, const uint8_t *operators,
                                         size_t operators_length, uint32_t *cells, size_t cells_length);
@@ -102,16 +109,18 @@ struct onnx_gate_answer onnx_gate_check(const uint8_t *model, size_t model_lengt
  *   seed                         how names are spread over the index. No answer depends on it, only the time: draw it at random for
  *                                each call (getrandom), and whoever makes a model cannot make its names collide.
  *
- * How many extra cells: 4 * cells_length index the visible names. 2 + 4 * R more make everything linear in the model's length, where
- * R is the most names of lists that are open at once: imports with a domain that is not empty, initializers of the main graph,
- * named nodes of the graphs that are open, attributes of the nodes that are open. With fewer than that, a list that does not fit is
- * read again for each name in it: the same answer, later. All cells of both kinds are cleared in each call, so that far more of
- * them than needed cost time as well.
+ * How many extra cells: 4 * cells_length, or 4 * (cells_length / 2) + 2 + 4 * R where that is more, make everything linear in the
+ * model's length. 4 * (cells_length / 2) + 1 of them index the visible names, and the lists have the others. R is the most names of
+ * lists that are open at once: imports with a domain that is not empty, initializers of the main graph, named nodes of the graphs
+ * that are open, attributes of the nodes that are open. With fewer than that, a list that does not fit is read again for each name in
+ * it: the same answer, later. All cells of both kinds are cleared in each call, so that far more of them than needed cost time as
+ * well.
  *
- * How much memory: never are more than model_length / 3 names visible, and R is never more than model_length / 7. That comes to 9
- * bytes for each byte of the model, 19 GB for the largest, and a model that needs anything near it is none that people make. So
- * begin with few cells, and lend more when the answer is 40: any other answer is the same with more cells. onnx_gate_sizing.h counts
- * how many cells a model can need, and R.
+ * How much memory: never are more than model_length / 3 names visible, and R is never more than model_length / 7. A name takes 8
+ * bytes of cells and 32 of extra cells, in which R has room as well as long as it is less than the names. That comes to 13.4 bytes for
+ * each byte of the model, 28.7 GB for the largest, and a model that needs anything near it is none that people make. So begin with
+ * few cells, and lend more when the answer is 40: any other answer is the same with more cells. onnx_gate_sizing.h counts how many
+ * names a model can have visible, and R.
  */
 struct onnx_gate_answer onnx_gate_check_indexed(const uint8_t *model, size_t model_length, const uint8_t *operators,
                                                 size_t operators_length, uint32_t *cells, size_t cells_length,

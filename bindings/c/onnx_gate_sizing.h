@@ -13,7 +13,8 @@
 extern "C" {
 #endif
 
-/* Upper bounds: of `names` cells none is missing, nor of 4 * names + 2 + 4 * lists extra ones. */
+/* Upper bounds, of names and not of cells: with ONNX_GATE_CELLS_PER_NAME * names cells, and onnx_gate_extra_for these cells and
+ * `lists`, none is missing. */
 struct onnx_gate_need {
     size_t names; /* how many names are visible together; at most model_length / 3 */
     size_t lists; /* R of onnx_gate.h: how many names of lists are open at once; at most model_length / 7 */
@@ -25,10 +26,14 @@ struct onnx_gate_need {
  * than 65,536 names of lists are counted the library itself is asked, in no cells, whether the model is refused before its imports;
  * then both are 0 as well.
  *
- * A file may claim many names and be refused at the first of them. So begin with some thousand cells where `names` is more, and
- * lend more, eight times as many, as long as the answer is 40: any other answer is the same with more cells. example.c does so.
+ * A file may claim many names and be refused at the first of them. So begin with cells for some thousand names where `names` is more,
+ * and lend more, eight times as many, as long as the answer is 40: any other answer is the same with more cells. example.c does so.
  */
 struct onnx_gate_need onnx_gate_needed(const uint8_t *model, size_t model_length);
+
+/* How many extra cells, beside so many cells, make everything linear where so many names of lists are open at once: as onnx_gate.h
+ * says, and never so few that the answer is 65. For cells and lists of up to 2^31 each. */
+size_t onnx_gate_extra_for(size_t cells, size_t lists);
 
 #ifdef __cplusplus
 }

@@ -125,6 +125,12 @@ static int keeps_nothing(const uint8_t *model, size_t model_length)
     return answer.refusal != ONNX_GATE_VERSION_NOT_LISTED;
 }
 
+size_t onnx_gate_extra_for(size_t cells, size_t lists)
+{
+    size_t least = 4 * cells, linear = 4 * (cells / ONNX_GATE_CELLS_PER_NAME) + 2 + 4 * lists;
+    return linear < least ? least : linear;
+}
+
 struct onnx_gate_need onnx_gate_needed(const uint8_t *model, size_t model_length)
 {
     struct onnx_gate_need nothing = {0, 0};

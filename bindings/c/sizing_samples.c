@@ -9,6 +9,7 @@
 #define PAGE 4096
 #define MOST 2147483647
 #define CELLS 64
+#define EXTRA 256
 
 /* a string's bytes and their number, without the 0 that C puts at its end */
 #define BYTES(s) (s), sizeof(s) - 1
@@ -75,15 +76,39 @@ static void check_rows(uint8_t *page)
     }
 }
 
+/* The indexed check in as many cells of both kinds as are counted. */
+static struct onnx_gate_answer check_counted(const uint8_t *model, size_t length, struct onnx_gate_need need)
+{
+    uint32_t cells[CELLS], extra[EXTRA];
+    size_t count = ONNX_GATE_CELLS_PER_NAME * need.names, more = onnx_gate_extra_for(count, need.lists);
+    expect(count <= CELLS && more <= EXTRA, "room, length", length);
+    return onnx_gate_check_indexed(model, length, (const uint8_t *)L, sizeof L - 1, cells, count, extra, more, 7);
+}
+
 /* Never more than the bytes have room for; never fewer names than the library finds. 1 where it accepts. */
 static size_t check_bounds(const uint8_t *model, size_t length)
 {
     uint32_t cells[CELLS];
     struct onnx_gate_need need = onnx_gate_needed(model, length);
     struct onnx_gate_answer answer = onnx_gate_check(model, length, (const uint8_t *)L, sizeof L - 1, cells, CELLS);
+    struct onnx_gate_answer counted = check_counted(model, length, need);
     expect(need.names <= length / 3 && need.lists <= length / 7, "bounds, length", length);
     expect(answer.names <= need.names, "names, length", length);
+    expect(counted.refusal == answer.refusal && counted.place == answer.place && counted.first == answer.first, "counted, length",
+           length);
     return answer.refusal == ONNX_GATE_ACCEPTED;
+}
+
+/* Four times the cells, and more only for more lists than names. */
+static void check_extra(void)
+{
+    static const size_t extra[][3] = {{0, 0, 2},  {1, 0, 4},   {2, 0, 8},    {3, 0, 12},        {0, 5, 22},        {1, 5, 22},
+                                      {2, 1, 10}, {3, 5, 26},  {4, 1, 16},   {4, 2, 18},        {5, 2, 20},        {5, 3, 22},
+                                      {8, 3, 32}, {8, 4, 34},  {8, 99, 414}, {131072, 65535, 524288}, {131072, 65536, 524290},
+                                      {2 * (size_t)(MOST / 3), MOST / 7, 8 * (size_t)(MOST / 3)}};
+    size_t i;
+    for (i = 0; i < sizeof extra / sizeof extra[0]; i++)
+        expect(onnx_gate_extra_for(extra[i][0], extra[i][1]) == extra[i][2], "extra cells, row", i);
 }
 
 /* Each start of a sound model, and each of its bytes replaced by each other. */
@@ -182,6 +207,7 @@ int main(void)
     }
     check_rows(page);
     check_changes(page);
+    check_extra();
     check_depth(large);
     check_long_lists(large);
     check_large(large);

@@ -49,9 +49,20 @@ class Files(InFolder):
             self.assertEqual(checked.model, model if checked else b"", name)
 
     def test_bounds(self):
-        self.assertTrue(onnx_gate.check_file(str(SOUND), OPERATORS, cells=13, seed=7))
-        self.assertEqual(onnx_gate.check_file(SOUND, OPERATORS, cells=12).refusal, 40)
+        for cells in 26, 27:
+            self.assertTrue(onnx_gate.check_file(str(SOUND), OPERATORS, cells=cells, seed=7))
+        for cells in 25, 24, 1, 0:
+            self.assertEqual(onnx_gate.check_file(SOUND, OPERATORS, cells=cells).refusal, 40)
         self.assertNotIn("model", repr(onnx_gate.check_file(SOUND, OPERATORS)))
+
+    def test_both_definitions(self):
+        """Each of them is a field that holds the name, and only 23 has a second."""
+        for name in table():
+            checked, model = onnx_gate.check_file(EXAMPLES / name, OPERATORS), (EXAMPLES / name).read_bytes()
+            self.assertEqual(checked.first > 0, name.startswith("23-"), name)
+            if checked.first:
+                again, before = (model[place + 1 :][: 1 + model[place + 1]] for place in (checked.place, checked.first))
+                self.assertEqual(again, before, name)
 
     def test_no_more_is_read_than_need_be(self):
         large = self.folder / "large.onnx"

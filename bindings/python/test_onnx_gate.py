@@ -6,6 +6,8 @@ import onnx_gate
 
 LIST = onnx_gate.operators([("", 7, 21)])
 M1 = bytes.fromhex("0808 4202100D 3A0B 120167 0A06 120161 220158")
+READER = bytes.fromhex("0808 4202100D 3A0E 120167 0A09 0A0161 120161 220158")
+TWICE = bytes.fromhex("0808 4202100D 3A0E 120167 0A09 120161 120161 220158")
 
 
 class Samples(unittest.TestCase):
@@ -16,9 +18,30 @@ class Samples(unittest.TestCase):
         self.assertEqual(LIST.hex(), "0000000b0100080000000700000015")
         self.assertEqual(self.line(b"", 0), "refused 10 at 0")
         self.assertEqual(self.line(b"\x08\x08\x08\x08", 0), "refused 5 at 2")
-        self.assertEqual(self.line(M1, 1), "accepted nodes 1 names 1")
-        self.assertEqual(self.line(M1, 0), "refused 40 at 13")
-        self.assertEqual(self.line(M1, None), "accepted nodes 1 names 1")
+        for cells in 2, 3, 9, None:
+            self.assertEqual(self.line(M1, cells), "accepted nodes 1 names 1")
+            self.assertEqual(self.line(TWICE, cells), "refused 23 at 16 first 13")
+        for cells in 0, 1:
+            self.assertEqual(self.line(M1, cells), "refused 40 at 13")
+            self.assertEqual(self.line(TWICE, cells), "refused 40 at 13")
+            self.assertEqual(self.line(READER, cells), "refused 30 at 13")
+
+    def test_both_definitions(self):
+        self.assertEqual(onnx_gate.check(TWICE, LIST), onnx_gate.Answer(23, 16, 0, 0, 13))
+        self.assertEqual(repr(onnx_gate.check(TWICE, LIST)), "Answer(refusal=23, place=16, nodes=0, names=0, first=13)")
+        self.assertEqual(onnx_gate.check(READER, LIST), onnx_gate.Answer(30, 13, 0, 0, 0))
+        head, default = "0808 4202100D 3A1E 120167", "2A05 420177 1001"
+        entry = "5A0B 0A0177 1206 0A04 0801 1200"
+        for fields, answer in (
+            (entry + default + default, "refused 23 at 33 first 13"),  # the input's, not the default's
+            (default + entry + default, "refused 23 at 33 first 20"),
+            (default + default + entry, "refused 23 at 20 first 27"),  # inputs are judged first
+        ):
+            model = bytes.fromhex(head + fields)
+            self.assertEqual(str(onnx_gate.check(model, LIST)), answer)
+            for cells in 2, 3, 9:
+                self.assertEqual(str(onnx_gate.check(model, LIST, cells, 4 * cells, 7)), answer)
+        self.assertEqual(self.line(bytes.fromhex("0808 4202100D 3A17 120167" + default + entry), 2), "accepted nodes 0 names 1")
 
     def test_padded_varints(self):
         """A tag, a value and a length, in what is opened and of fields that no row names; beside each its shortest form."""
@@ -54,10 +77,11 @@ class Samples(unittest.TestCase):
     def test_extra_cells_and_seeds(self):
         for seed in 0, 1, 2**64 - 1:
             self.assertEqual(str(onnx_gate.check(M1, LIST, seed=seed)), "accepted nodes 1 names 1")
-            for cells in 1, 2, 9:
+            for cells in 2, 3, 9:
                 lines = [str(onnx_gate.check(M1, LIST, cells, 4 * cells + more, seed)) for more in (-1, 0, 1, 500)]
                 self.assertEqual(lines, ["refused 65 at 0"] + 3 * ["accepted nodes 1 names 1"])
-        self.assertEqual(str(onnx_gate.check(M1, LIST, 0, 0)), "refused 40 at 13")
+        for cells in 0, 1:
+            self.assertEqual(str(onnx_gate.check(M1, LIST, cells, 4 * cells)), "refused 40 at 13")
         self.assertEqual(onnx_gate.check(M1, LIST, 1, 0).rule, "too-few-extra")
 
     def test_names(self):

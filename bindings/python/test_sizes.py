@@ -65,23 +65,30 @@ class Sizes(unittest.TestCase):
     def test_as_many_as_are_counted(self):
         for doc_string in 0, 5_000_000:
             model = outputs(5000, doc_string)
-            self.assertEqual(lent(model), ("accepted nodes 1 names 5000", [(5000, 20_002)]))
-            self.assertEqual(lent(model, cells=4999), (full(model, 4999), [(4999, 19_998)]))
-        self.assertEqual(lent(tensors(100)), ("accepted nodes 0 names 100", [(100, 400 + 2 + 400)]))
+            self.assertEqual(lent(model), ("accepted nodes 1 names 5000", [(10_000, 40_000)]))
+            self.assertEqual(lent(model, cells=9999), (full(model, 4999), [(9999, 39_996)]))
+            self.assertEqual(lent(model, cells=9998), (full(model, 4999), [(9998, 39_992)]))
+            self.assertEqual(lent(model, cells=1), (full(model, 0), [(1, 4)]))
+        self.assertEqual(lent(tensors(100)), ("accepted nodes 0 names 100", [(200, 400 + 2 + 400)]))
         self.assertEqual(lent(b""), ("refused 10 at 0", [(0, 2)]))
+
+    def test_extra_cells(self):
+        """Four for each cell, and more only for more lists than names."""
+        for cells, lists, extra in (0, 0, 2), (1, 0, 4), (2, 0, 8), (2, 1, 10), (3, 1, 12), (4, 1, 16), (4, 2, 18), (0, 9, 38):
+            self.assertEqual(_sizing.extra_cells(cells, lists), extra)
 
     def test_more_after_a_40(self):
         model = outputs(600_000)
         answer, cells = lent(model)
         self.assertEqual(answer, "accepted nodes 1 names 600000")
-        self.assertEqual(cells, [(count, 4 * count + 2) for count in (65_536, 524_288, 600_000)])
-        answer, cells = lent(model, cells=100_000)
-        self.assertEqual((answer, [count for count, _ in cells]), (full(model, 100_000), [65_536, 100_000]))
+        self.assertEqual(cells, [(count, 4 * count) for count in (131_072, 1_048_576, 1_200_000)])
+        answer, cells = lent(model, cells=200_001)
+        self.assertEqual((answer, [count for count, _ in cells]), (full(model, 100_000), [131_072, 200_001]))
 
     def test_a_count_that_is_too_low(self):
         model = outputs(70_000)
-        most = len(model) // 3
-        for names, tries in (0, [0, most]), (60_000, [60_000, most]), (69_999, [65_536, 69_999, most]):
+        most = 2 * (len(model) // 3)
+        for names, tries in (0, [0, most]), (60_000, [120_000, most]), (69_999, [131_072, 139_998, most]):
             with mock.patch.object(_library, "needed", return_value=_library.Need(names, 0)):
                 answer, cells = lent(model)
             self.assertEqual((answer, [count for count, _ in cells]), ("accepted nodes 1 names 70000", tries))
@@ -89,14 +96,14 @@ class Sizes(unittest.TestCase):
     def test_claims(self):
         """A file that claims many names and is refused at the first gets room for few."""
         inputs = graph(b"\x5a\x03\x0a\x01i" * 200_000)
-        self.assertEqual(lent(inputs), (f"refused 24 at {inputs.index(0x5A)}", [(65_536, 4 * 65_536 + 2)]))
+        self.assertEqual(lent(inputs), (f"refused 24 at {inputs.index(0x5A)}", [(131_072, 4 * 131_072)]))
         attributes = graph(part(1, b"\x22\x01X" + b"\x2a\x00" * 200_000))
         self.assertEqual(lent(attributes), (f"refused 22 at {attributes.index(0x2A)}", [(0, 2)]))
 
     def test_lists_that_are_never_read(self):
         """More than 65,536 names of lists get room only where the library comes so far as to read them."""
         count = 70_000
-        self.assertEqual(lent(tensors(count))[1][0], (65_536, 4 * 65_536 + 2 + 4 * count))
+        self.assertEqual(lent(tensors(count))[1][0], (131_072, 4 * 65_536 + 2 + 4 * count))
         twice, padded, empty = b"\x12\x01g", b"\x52\x80\x00", b"\x00\x00\x00\x01\x01"
         for number, last in (5, twice), (9, padded):
             model = tensors(count, last)
@@ -104,8 +111,8 @@ class Sizes(unittest.TestCase):
         self.assertEqual(lent(b"\x08\x03" + tensors(count)[2:]), ("refused 10 at 0", [(0, 2)]))
         self.assertEqual(lent(tensors(count, twice), b""), ("refused 8 at 0", [(0, 2)]))
         self.assertEqual(lent(tensors(count), empty)[0], "refused 14 at 2")
-        few = tensors(_sizing.FIRST, twice)
-        self.assertEqual(lent(few)[1], [(65_536, 4 * 65_536 + 2 + 4 * 65_536)])
+        few = tensors(65_536, twice)
+        self.assertEqual(lent(few)[1], [(131_072, 4 * 65_536 + 2 + 4 * 65_536)])
 
     def test_what_cannot_be_read(self):
         for start in b"\x00", b"\x0b", b"\x3a\xff\xff\xff\xff\x7f", b"\xff" * 11, part(7, b"\x0a\x7f"):
@@ -134,8 +141,9 @@ class Mapped(unittest.TestCase):
             for count in 1, 100, 5000:
                 model = outputs(count)
                 self.assertEqual(str(onnx_gate.check(model, LIST)), f"accepted nodes 1 names {count}")
-                self.assertEqual(str(onnx_gate.check(model, LIST, count - 1)), full(model, count - 1))
-            self.assertEqual(str(onnx_gate.check(outputs(3), LIST, 3, 11)), "refused 65 at 0")
+                for cells in 2 * count - 1, 2 * count - 2:
+                    self.assertEqual(str(onnx_gate.check(model, LIST, cells)), full(model, count - 1))
+            self.assertEqual(str(onnx_gate.check(outputs(3), LIST, 6, 23)), "refused 65 at 0")
             self.assertEqual(str(onnx_gate.check(outputs(3), LIST, 0, 1)), full(outputs(3), 0))
 
     def test_no_memory(self):
@@ -145,7 +153,7 @@ class Mapped(unittest.TestCase):
 
     def test_they_end_with_the_call(self):
         """Also where it is interrupted, and not only when garbage is collected."""
-        rooms, mapped, many = [], _library._mapped, (1, _library._FEW)
+        rooms, mapped, many = [], _library._mapped, (2, _library._FEW)
         with mock.patch.object(_library, "_mapped", lambda size: rooms.append(mapped(size)) or rooms[-1]):
             self.assertTrue(onnx_gate.check(outputs(1), LIST, *many))
             with mock.patch.object(_library, "_library") as library, self.assertRaises(KeyboardInterrupt):
@@ -248,7 +256,7 @@ class Memory(unittest.TestCase):
         attributes = b"\x12\x01y\x22\x01X" + b"\x2a\x06\x0a\x01a\xa0\x01\x01" * 7_500_000
         for expected, contents in (
             ("refused 31 at 35", part(1, attributes)),
-            ("refused 23 at 23", b"\x2a\x05\x42\x01w\x10\x01" * 8_570_000),
+            ("refused 23 at 23 first 16", b"\x2a\x05\x42\x01w\x10\x01" * 8_570_000),
             ("refused 29 at 28", b"\x0a\x08\x12\x00\x1a\x01n\x22\x01X" * 6_000_000),
         ):
             with tempfile.TemporaryDirectory() as folder:

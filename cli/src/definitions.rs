@@ -1,4 +1,4 @@
-//! Where a name is defined, anywhere in the model: what a reader of refusals 23, 30 and 35 looks for next.
+//! Where a name is defined, anywhere in the model: what a reader of refusals 30 and 35 looks for next.
 use crate::path::DEEPEST;
 use crate::schema::Kind;
 use crate::wire::{self, Field};

@@ -126,7 +126,11 @@ mod tests {
     const READER: &str = "08 08 42 02 10 0D 3A 0E 12 01 67 0A 09 0A 01 61 12 01 61 22 01 58";
 
     fn explained(model: &[u8], number: u64, place: usize) -> Explanation<'_> {
-        found(&Given { model, operators: &[0, 0, 0, 1, 1], cells: 3 }, Refusal { number, place })
+        explained_both(model, number, place, None)
+    }
+
+    fn explained_both(model: &[u8], number: u64, place: usize, first: Option<usize>) -> Explanation<'_> {
+        found(&Given { model, operators: &[0, 0, 0, 1, 1], cells: 3 }, Refusal { number, place, first })
     }
 
     #[test]
@@ -137,6 +141,20 @@ mod tests {
         assert_eq!(e.name, Some(&b"a"[..]));
         assert_eq!(e.notes, ["defined at graph > node[0] (X) > output[0]"]);
         assert_eq!(e.window.unwrap(), Window { start: 9, bytes: &model[9..], field: 13..16 });
+    }
+
+    /// The earlier place is the library's, and nothing is sought for it: not even where the name is another one.
+    #[test]
+    fn a_name_that_is_defined_twice() {
+        let model = bytes("08 08 42 02 10 0D 3A 0E 12 01 67 0A 09 12 01 61 12 01 61 22 01 58");
+        let e = explained_both(&model, 23, 16, Some(13));
+        assert_eq!((e.path.as_deref(), e.name), (Some("graph > node[0] (X) > output[1]"), Some(&b"a"[..])));
+        assert_eq!(e.notes, ["defined first at 13, graph > node[0] (X) > output[0]"]);
+        let behind = explained_both(&model, 23, 13, Some(16)).notes;
+        assert_eq!(behind, ["defined first at 16, graph > node[0] (X) > output[1]"]);
+        assert_eq!(explained_both(&model, 23, 16, Some(8)).notes, ["defined first at 8, graph > name"]);
+        assert!(explained(&model, 23, 16).notes.is_empty());
+        assert_eq!(explained_both(&model, 23, 16, Some(usize::MAX)).notes.len(), 1);
     }
 
     #[test]
@@ -194,7 +212,8 @@ mod tests {
             }
             model.truncate(r.below(model.len() as u64 + 1) as usize);
             let place = r.below(model.len() as u64 + 3) as usize;
-            explained(&model, r.below(42), place);
+            let first = Some(r.below(model.len() as u64 + 3) as usize).filter(|_| round % 3 == 0);
+            explained_both(&model, r.below(42), place, first);
         }
         explained(&model_of_nested_bytes(), 30, 5_000);
         explained(&sound, 30, usize::MAX);
@@ -214,13 +233,15 @@ mod tests {
                     let at = r.below(model.len() as u64 + 1) as usize;
                     model.get_mut(at).into_iter().for_each(|b| *b = r.below(256) as u8);
                 }
-                let Err(refusal) = onnx_gate::check_with(&model, &list, &mut [0; 8]) else { continue };
+                let Err(refusal) = onnx_gate::check_with(&model, &list, &mut [0; 16]) else { continue };
                 met.insert(refusal.number);
                 let path = path::find(&model, refusal.place);
                 let known = path.exact || path.unreadable || lacks_a_field(refusal.number, &path);
                 assert!(known, "{refusal} of {model:02x?}");
-                let notes = found(&Given { model: &model, operators: &list, cells: 8 }, refusal).notes;
-                assert!(refusal.number != 9 || notes.len() == 1, "{refusal} of {model:02x?}: {notes:?}");
+                let notes = found(&Given { model: &model, operators: &list, cells: 16 }, refusal).notes;
+                assert!(!matches!(refusal.number, 9 | 23) || notes.len() == 1, "{refusal} of {model:02x?}: {notes:?}");
+                let first = refusal.first.map(|first| path::find(&model, first));
+                assert!(first.is_none_or(|path| path.exact), "{refusal} of {model:02x?}");
             }
         }
         assert!(met.len() >= 30, "{met:?}");

@@ -32,8 +32,8 @@ macro_rules! terms {
         "      --operators FILE       the operator list of the runtime, as `onnx-gate operators write` makes it
       --allow DOMAIN:LO-HI   versions of a domain that the runtime has, instead of a list; may stand again.
                              Without either: --allow ai.onnx:7-21 --allow ai.onnx.ml:1-5
-      --cells N              refuse a model, with 40, that has more than N names visible at once; without it there
-                             are as many working cells as the model needs
+      --cells N              work in N cells, of which a visible name takes two: a model that has more than half of
+                             N names visible at once is refused with 40; without it there are as many as it needs
       --seed N               how names are spread over the index, from 0 to 2^64 - 1, in digits or in 0x and hex
                              digits: for runs that do the same work again. No answer depends on it. Without it a
                              random one is drawn for each model, so that no file can be made to stall the check
@@ -78,8 +78,9 @@ Options:
 Text: only printable ASCII of names is printed as it is; the rest as \\u{e9}, or \\xff where it is not UTF-8.
 
 JSON: each object has the same keys, and null for what does not apply; notes is a list. accepted is true, false, or
-null where the file was not judged: error says why. file and name are text, in which U+FFFD stands for bytes that are
-not UTF-8; file_hex and name_hex are the same bytes in hex, exactly. At most 1024 bytes of a name are given;
+null where the file was not judged: error says why. place is the byte at which the field at fault begins; first, with
+23 alone, that of the definition which is already visible. file and name are text, in which U+FFFD stands for bytes
+that are not UTF-8; file_hex and name_hex are the same bytes in hex, exactly. At most 1024 bytes of a name are given;
 name_length says how many it has.
 
 Exit status: 0 every model was checked and accepted, 1 some are refused (an unsound list refuses every model), 2 bad

@@ -30,6 +30,7 @@ pub fn object(file: &OsStr, verdict: &Verdict) -> String {
         .number("names", accepted.map(|a| a.names))
         .number("refusal", refusal.map(|r| r.number))
         .number("place", refusal.map(|r| r.place as u64))
+        .number("first", refusal.and_then(|r| r.first).map(|first| first as u64))
         .text("rule", refusal.map(|r| r.name()))
         .text("explanation", refusal.map(|r| r.explanation()))
         .text("path", found.and_then(|e| e.path.as_deref()))
@@ -113,11 +114,25 @@ mod tests {
         assert_eq!(string("é\u{1F600}\u{7f}"), "\"\\u00e9\\ud83d\\ude00\\u007f\"");
     }
 
+    /// A second place is a number with 23 alone.
+    #[test]
+    fn both_places() {
+        for (refusal, expected) in [
+            (Refusal { number: 23, place: 16, first: Some(13) }, r#""refusal":23,"place":16,"first":13,"rule":"#),
+            (Refusal { number: 30, place: 13, first: None }, r#""refusal":30,"place":13,"first":null,"rule":"#),
+        ] {
+            let found = object(OsStr::new("m"), &Verdict::Refused(refusal, Explanation::default()));
+            assert!(found.contains(expected), "{found}");
+        }
+        let found = object(OsStr::new("m"), &Verdict::Accepted(Accepted { nodes: 1, names: 1 }));
+        assert!(found.contains(r#""place":null,"first":null"#), "{found}");
+    }
+
     #[test]
     fn an_object() {
         let found = object(OsStr::from_bytes(b"m\xff"), &Verdict::NotJudged("gone"));
         let expected = r#"{"file":"m\ufffd","file_hex":"6dff","accepted":null,"nodes":null,"names":null,"refusal":null,
-"place":null,"rule":null,"explanation":null,"path":null,"name":null,"name_hex":null,"name_length":null,"notes":[],
+"place":null,"first":null,"rule":null,"explanation":null,"path":null,"name":null,"name_hex":null,"name_length":null,"notes":[],
 "bytes":null,"error":"gone"}"#;
         assert_eq!(found, expected.replace('\n', ""));
     }

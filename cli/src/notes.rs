@@ -7,7 +7,7 @@ use crate::schema::Kind;
 use crate::text::{bare, quoted, signed};
 use crate::wire;
 use onnx_gate::operators::canonical;
-use onnx_gate::Refusal;
+use onnx_gate::{Refusal, CELLS_PER_NAME};
 
 /// How many definitions are named.
 const NAMED: usize = 3;
@@ -26,6 +26,7 @@ pub fn of(given: &Given, refusal: Refusal, path: &Path, name: Option<&[u8]>) -> 
         5 => target.and_then(|t| earlier(given.model, t, |f| f.number == t.field.number)),
         9 => padded(given.model, refusal.place),
         10 => Some(value("ir_version", target.filter(|t| t.is(Kind::Model, 1)))),
+        23 => refusal.first.map(|first| format!("defined first at {}", with_path(given.model, first))),
         29 | 31 => path.steps.iter().nth_back(1).and_then(|t| namesake(given.model, t)),
         13 | 14 => target.and_then(|t| import(given, refusal.number, t)),
         25 => Some(value("elem_type", target.filter(|t| t.is(Kind::TensorType, 1)))),
@@ -33,8 +34,8 @@ pub fn of(given: &Given, refusal: Refusal, path: &Path, name: Option<&[u8]>) -> 
         28 => target.map(|t| imports(given.model, t)),
         32 => target.and_then(|t| attribute(given.model, t)),
         38 => Some(value("dim_value", target)),
-        40 => Some(format!("there are {} cells", given.cells)),
-        23 | 30 | 35 => return name.map_or(vec![], |n| defined(given.model, path, n)),
+        40 => Some(format!("there are {} cells, {CELLS_PER_NAME} for each name", given.cells)),
+        30 | 35 => return name.map_or(vec![], |n| defined(given.model, n)),
         _ => None,
     };
     note.into_iter().collect()
@@ -72,7 +73,11 @@ fn padded(model: &[u8], place: usize) -> Option<String> {
 fn earlier(model: &[u8], step: &Step, alike: impl Fn(&wire::Field) -> bool) -> Option<String> {
     let mut before = wire::fields(model, step.from, step.within).take_while(|f| f.tag < step.field.tag);
     let first = before.find(alike)?.tag;
-    Some(format!("first at {first}, {}", path::find(model, first).shown()))
+    Some(format!("first at {}", with_path(model, first)))
+}
+
+fn with_path(model: &[u8], place: usize) -> String {
+    format!("{place}, {}", path::find(model, place).shown())
 }
 
 /// The earlier node or attribute that has the same name.
@@ -131,13 +136,11 @@ fn attribute(model: &[u8], target: &Step) -> Option<String> {
     Some(format!("type is {kind}; the attribute holds {held}"))
 }
 
-/// Where else the name is defined: later, in another branch, or nowhere.
-fn defined(model: &[u8], path: &Path, name: &[u8]) -> Vec<String> {
-    let itself = |place: &usize| path.steps.iter().any(|s| s.field.tag == *place);
-    // one more, since the field at fault may be among them
-    let places: Vec<usize> = definitions::of(model, name, NAMED + 1).into_iter().filter(|p| !itself(p)).collect();
+/// Where the name is defined all the same: later, in another branch, or nowhere.
+fn defined(model: &[u8], name: &[u8]) -> Vec<String> {
+    let places = definitions::of(model, name, NAMED);
     if places.is_empty() {
         return vec![format!("nothing in the model defines {}", quoted(name))];
     }
-    places.iter().take(NAMED).map(|p| format!("defined at {}", path::find(model, *p).shown())).collect()
+    places.iter().map(|p| format!("defined at {}", path::find(model, *p).shown())).collect()
 }

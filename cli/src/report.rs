@@ -3,7 +3,7 @@ use crate::explain::{Explanation, Window};
 use crate::text::{quoted, Paint};
 use onnx_gate::Refusal;
 
-/// The lines under `refused N at P`.
+/// The lines under that of the answer.
 pub fn lines(refusal: Refusal, e: &Explanation, paint: Paint) -> Vec<String> {
     let mut out = vec![line(paint, "rule", &format!("{}: {}", refusal.name(), refusal.explanation()))];
     out.extend(e.path.as_ref().map(|path| line(paint, "where", path)));

@@ -4,6 +4,7 @@
 test_answers() {
     examples "$@"
     as_json
+    both_places
     bad_input
     padding
     dear_explanations
@@ -31,8 +32,10 @@ examples() {
         esac
     done
     try 0 '*: accepted nodes 9 names 13' '' check ok-tagger.onnx
-    try 0 '*: accepted nodes 9 names 13' '' check --cells 13 ok-tagger.onnx
-    try 1 '*: refused 40 at *there are 12 cells*' '' check --cells 12 ok-tagger.onnx
+    for cells in 26 27; do try 0 '*: accepted nodes 9 names 13' '' check --cells $cells ok-tagger.onnx; done
+    for cells in 25 24 1 0; do
+        try 1 "*: refused 40 at *there are $cells cells, 2 for each name*" '' check --cells $cells ok-tagger.onnx
+    done
     try 1 '*: refused 14 at *list allows 7 to 12*' '' check --allow ai.onnx:7-12 ok-tagger.onnx
     try 0 '*accepted*accepted*'$'\n''2 accepted, 0 refused, 0 not judged' '' check ok-tagger.onnx ok-network.onnx
     for seed in 0 1 18446744073709551615 0xfedcba9876543210; do
@@ -48,6 +51,39 @@ as_json() {
     same "JSON" "$(script json_agrees "$work/json" "$root/cli/tests/examples.txt")" "agrees"
     # without its list no model is judged, and each has a line all the same
     try 2 '{"file":"a"*"accepted":null*no.lst: no such file"}'$'\n''{"file":"b"*}' '*' check --json --operators no.lst a b
+}
+
+# A name that is defined twice: the line, JSON and the explanation show where it was defined first, as the library says.
+both_places() {
+    local twice=$root/examples/23-defined-twice.onnx default=$root/examples/23-default-twice.onnx file
+    local line=': refused 23 at 159 first 135' json='*"refusal":23,"place":159,"first":135,*'
+    local note='  note   defined first at 135, graph > node?0? "dense1" > output?0?'
+    for more in --cells=26 --cells=27 --seed=0 --seed=7; do
+        try 1 "$twice$line"$'\n*\n'"$note"$'\n*' '' check $more "$twice"
+        try 1 "$json" '' check --json $more "$twice"
+    done
+    try 1 "$twice$line" '' check -q "$twice"
+    try 1 "$twice$line"$'\n''1 accepted, 1 refused, 0 not judged' '' check -q "$good" "$twice"
+    try 1 "$good: accepted*$twice$line*$refused: refused 30 at 159"$'\n*1 accepted, 2 refused, 0 not judged' '' \
+        check "$good" "$twice" "$refused"
+    try 1 $'*"accepted":true,*"first":null,*\n'"$json"$'\n*"refusal":30,"place":159,"first":null,*' '' \
+        check --json "$good" "$twice" "$refused"
+    try 1 '' "$twice$line"$'\n*defined first at 135, graph > *' pass "$twice"
+    run "$gate" check -q - <"$twice" >"$work/out"
+    same "a second definition in standard input" "$(cat "$work/out")" "-$line"
+    # the input's place, and not that of its default; and one behind the refusal's, as inputs are judged first
+    try 1 '*: refused 23 at 156 first 52*defined first at 52, graph > input?1? "w" > name*' '' check "$default"
+    file=$root/examples/23-inputs-last.onnx
+    try 1 '*: refused 23 at 109 first 130*defined first at 130, graph > input?0? "x" > name*' '' check "$file"
+    try 1 '*"refusal":23,"place":109,"first":130,*' '' check --json "$file"
+    printf '\x08\x08\x42\x02\x10\x0D\x3A\x1E\x12\x01g\x2A\x05\x42\x01w\x10\x01\x2A\x05\x42\x01w\x10\x01' >defaults.onnx
+    printf '\x5A\x0B\x0A\x01w\x12\x06\x0A\x04\x08\x01\x12\x00' >>defaults.onnx
+    try 1 'defaults.onnx: refused 23 at 20 first 27*' '' check defaults.onnx
+    # with no room for the first there is no second
+    printf '\x08\x08\x42\x02\x10\x0D\x3A\x0E\x12\x01g\x0A\x09\x12\x01a\x12\x01a\x22\x01X' >twice.onnx
+    for cells in 2 3; do try 1 'twice.onnx: refused 23 at 16 first 13' '' check -q --cells $cells twice.onnx; done
+    for cells in 0 1; do try 1 'twice.onnx: refused 40 at 13' '' check -q --cells $cells twice.onnx; done
+    rm ./*.onnx
 }
 
 bad_input() {
@@ -138,8 +174,8 @@ quick() {
 many_names() {
     script large "$root/examples" .
     try 0 '*: accepted nodes 20000 names 20001' '' check unnamed.onnx
-    try 0 '*: accepted nodes 20000 names 20001' '' check --cells 20001 --seed 7 unnamed.onnx
-    try 1 '*: refused 40 at *there are 20000 cells*' '' check --cells 20000 unnamed.onnx
+    try 0 '*: accepted nodes 20000 names 20001' '' check --cells 40002 --seed 7 unnamed.onnx
+    try 1 '*: refused 40 at *there are 40001 cells*' '' check --cells 40001 unnamed.onnx
     try 0 '*: accepted nodes 20000 names 20001' '' check named.onnx
     try 1 '*: refused 29 at *"node0"*first at 50, graph > node?0? "node0"*' '' check named-twice.onnx
     try 0 '*: accepted nodes 0 names 20000' '' check defaults.onnx

@@ -4,8 +4,8 @@ import re
 import sys
 from pathlib import Path
 
-KEYS = ["file", "file_hex", "accepted", "nodes", "names", "refusal", "place", "rule", "explanation", "path", "name", "name_hex"]
-KEYS += ["name_length", "notes", "bytes", "error"]
+KEYS = ["file", "file_hex", "accepted", "nodes", "names", "refusal", "place", "first", "rule", "explanation", "path", "name"]
+KEYS += ["name_hex", "name_length", "notes", "bytes", "error"]
 ALWAYS = {"file", "file_hex", "notes"}
 ACCEPTED = ALWAYS | {"accepted", "nodes", "names"}
 REFUSED = ALWAYS | {"accepted", "refusal", "place", "rule", "explanation"}
@@ -28,7 +28,9 @@ def line(answer):
         assert window["field_start"] == answer["place"] <= window["field_end"] <= len(model), answer
     if answer["name"] is not None:
         assert bytes.fromhex(answer["name_hex"]) == answer["name"].encode(), answer
-    return f"refused {answer['refusal']} at {answer['place']}"
+    assert (answer["first"] is not None) == (answer["refusal"] == 23), answer
+    first = f" first {answer['first']}" if answer["refusal"] == 23 else ""
+    return f"refused {answer['refusal']} at {answer['place']}{first}"
 
 
 answers = [json.loads(text) for text in open(sys.argv[1])]

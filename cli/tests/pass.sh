@@ -12,9 +12,10 @@ passes() {
 
 test_pass() {
     passes 0 "$good" "$good: accepted nodes 2 names 4" "$good"
-    passes 0 "$good" '*: accepted*' --seed 3 --cells 4 --allow ai.onnx:7-21 "$good"
+    passes 0 "$good" '*: accepted*' --seed 3 --cells 8 --allow ai.onnx:7-21 "$good"
     passes 1 '' '*: refused 30 at *  where  *' "$refused"
-    passes 1 '' '*: refused 40 at *' --cells 3 "$good"
+    passes 1 '' '*: refused 40 at *' --cells 7 "$good"
+    passes 1 '' '*: refused 23 at 159 first 135'$'\n*' "$root/examples/23-defined-twice.onnx"
     passes 1 '' '*: refused 14 at *' --allow ai.onnx:1-2 "$good"
     passes 2 '' 'onnx-gate: no-such: no such file' no-such
     passes 2 '' '*no.lst: no such file' --operators no.lst "$good"

@@ -25,4 +25,6 @@ MODELS = {
 for name, (refusal, fault, fields) in MODELS.items():
     made = model(graph("g", fields))
     (folder / f"{name}.onnx").write_bytes(made)
-    print(f"{name}.onnx: refused {refusal} at {made.index(fault, made.index(fault) + 1)}")
+    first = made.index(fault)
+    shown = f" first {first}" if refusal == 23 else ""
+    print(f"{name}.onnx: refused {refusal} at {made.index(fault, first + 1)}{shown}")

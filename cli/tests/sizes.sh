@@ -71,7 +71,8 @@ late_faults() {
         same "answer to $file" "$(head -1 "$work/out")" "$file:$answer"
         same "path in $file" "$(sed -n 's/^  where  //p' "$work/out")" "${path# }"
         run "$gate" check --json "$file" >"$work/out"
-        same "place of $file in JSON" "$(grep -o '"place":[0-9]*' "$work/out")" "\"place\":${answer##* }"
+        same "places of $file in JSON" "$(sed 's/.*"place":\([0-9]*\),"first":\(.*\),"rule":.*/\1 first \2/' "$work/out")" \
+            "$(sed 's/.* at //; / first /! s/$/ first null/' <<<"$answer")"
     done <expected
     rm ./*.onnx
 }

@@ -50,4 +50,5 @@ for name in sys.argv[4:]:
         file.write(tail)
     if refused:
         refusal, fault, path = refused
-        print(f"{name}.onnx: refused {refusal} at {len(head) + hole + tail.index(fault)}: {path}")
+        first = f" first {head.index(fault)}" if refusal == 23 else ""
+        print(f"{name}.onnx: refused {refusal} at {len(head) + hole + tail.index(fault)}{first}: {path}")

@@ -17,24 +17,29 @@ from operator import index
 
 from . import _files, _library, _sizing
 from ._lists import operators
-from ._sizing import LARGEST_MODEL
+from ._sizing import CELLS_PER_NAME, LARGEST_MODEL
 from ._values import Bytes, copied, whole
 from .rules import RULES
 
 __version__ = "0.1.0"
-__all__ = ["LARGEST_MODEL", "RULES", "Answer", "CheckedFile", "check", "check_file", "operators", "show_name"]
+__all__ = ["CELLS_PER_NAME", "LARGEST_MODEL", "RULES", "Answer", "CheckedFile", "check", "check_file", "operators", "show_name"]
 
+_ALREADY_VISIBLE = 23  # the one refusal that has a second place
 _MOST = 2**64 - 1  # of what crosses as 64 bits: ctypes would cut it
 
 
 @dataclass(frozen=True)
 class Answer:
-    """Accepted with two counts (`refusal` is 0), or refused with a number and a place. True where accepted."""
+    """Accepted with two counts (`refusal` is 0), or refused with a number and a place, and 23 with a second one. What does not apply
+    is 0. True where accepted."""
 
     refusal: int
     place: int
     nodes: int
     names: int
+    first: int
+    """Refused with 23: where the name is defined that is already visible, in bytes as `place`; of an input with a default, the input's.
+    It may lie behind `place`: fields are judged in another order than they stand in."""
 
     @property
     def accepted(self) -> bool:
@@ -56,7 +61,8 @@ class Answer:
     def __str__(self) -> str:
         if self.accepted:
             return f"accepted nodes {self.nodes} names {self.names}"
-        return f"refused {self.refusal} at {self.place}"
+        first = f" first {self.first}" if self.refusal == _ALREADY_VISIBLE else ""
+        return f"refused {self.refusal} at {self.place}{first}"
 
 
 @dataclass(frozen=True)
@@ -72,7 +78,8 @@ def check(
 ) -> Answer:
     """Accepts or refuses the bytes `model` for a runtime that has `operators`.
 
-    cells  how many names may be visible at once, beyond which the answer is 40; without it as many as the model needs
+    cells  how many cells there are, CELLS_PER_NAME for each name. Where more names are visible at once than half of them the answer
+           is 40. Without it there are as many as the model needs
     extra  how many extra cells are lent beside exactly `cells` cells: fewer than four times as many are refused with 65.
            Without it there are enough for the time to grow no faster than the model
     seed   how names are spread over the index, from 0 to 2**64 - 1. No answer depends on it. Without it a random one is drawn,
@@ -80,10 +87,10 @@ def check(
 
     What is not plain `bytes` is copied first: no change of it by others, and nothing that its class says, reaches the library.
 
-    Memory, beside the model: 16 bytes for each initializer, named node, attribute and import that it can have, and 20 for each name,
-    for up to 65,536 names at first and for eight times more as long as there are more. That is next to nothing for models that
-    people make, which tensors fill; a file that is made for it can ask for nine times its size, 19.3 GB at most. Of more than 4 MiB only
-    what a name is kept in is real. Where there is no memory that is a MemoryError, and no answer.
+    Memory, beside the model: 40 bytes for each name, for up to 65,536 names at first and for eight times more as long as there are
+    more; and 16 for each initializer, named node, attribute and import beyond as many as these names. That is next to nothing for models
+    that people make, which tensors fill; a file that is made for it can ask for 13.4 times its size, 28.7 GB at most. Of more than 4 MiB
+    only what a name is kept in is real. Where there is no memory that is a MemoryError, and no answer.
     """
     model, operators = copied(model), copied(operators)
     seed = int.from_bytes(os.urandom(8), "little") if seed is None else whole(seed, "seed", 0, _MOST)
@@ -103,7 +110,7 @@ def check_file(
     write to it afterwards does not reach `model`."""
     model = _files.read(path)
     found = check(model, operators, cells, seed=seed)
-    return CheckedFile(found.refusal, found.place, found.nodes, found.names, model if found else b"")
+    return CheckedFile(found.refusal, found.place, found.nodes, found.names, found.first, model if found else b"")
 
 
 def show_name(model: Bytes, start: int, length: int) -> bytes:
@@ -117,15 +124,16 @@ def show_name(model: Bytes, start: int, length: int) -> bytes:
 
 def _indexed(model: bytes, operators: bytes, cells: int, extra: int, seed: int) -> Answer:
     found = _library.check_indexed(model, operators, cells, extra, seed)
-    return Answer(found.refusal, found.place, found.nodes, found.names)
+    return Answer(found.refusal, found.place, found.nodes, found.names, found.first)
 
 
 def _sized(model: bytes, operators: bytes, limit: int, seed: int) -> Answer:
     """Starts with few cells where a model may have many names, and gives more after a 40: no other answer depends on them."""
     need, most = _library.needed(model), _sizing.most_cells(model, limit)
-    cells = min(need.names, most, _sizing.FIRST)
+    counted = CELLS_PER_NAME * need.names
+    cells = min(counted, most, _sizing.FIRST)
     while True:
-        answer = _indexed(model, operators, cells, 4 * cells + 2 + 4 * need.lists, seed)
+        answer = _indexed(model, operators, cells, _sizing.extra_cells(cells, need.lists), seed)
         if answer.refusal != 40 or cells == most:
             return answer
-        cells = _sizing.more_cells(cells, need.names, most)
+        cells = _sizing.more_cells(cells, counted, most)

@@ -8,8 +8,8 @@ from pathlib import Path
 _FEW = 1 << 20  # cells, of 4 MiB: an array for them is quicker than a mapping
 
 
-class Answer4(ctypes.Structure):
-    _fields_ = [(name, ctypes.c_uint64) for name in ("refusal", "place", "nodes", "names")]
+class Answered(ctypes.Structure):
+    _fields_ = [(name, ctypes.c_uint64) for name in ("refusal", "place", "nodes", "names", "first")]
 
 
 class Part(ctypes.Structure):
@@ -40,7 +40,7 @@ def _load() -> ctypes.CDLL:
     size, cells = ctypes.c_size_t, ctypes.c_void_p  # an array or an address
     lent = [ctypes.c_char_p, size, ctypes.c_char_p, size, cells, size, cells, size]
     library.onnx_gate_check_indexed.argtypes = [*lent, ctypes.c_uint64]
-    library.onnx_gate_check_indexed.restype = Answer4
+    library.onnx_gate_check_indexed.restype = Answered
     library.onnx_gate_show_name.argtypes = [ctypes.c_char_p, size, ctypes.c_uint64, ctypes.c_uint64]
     library.onnx_gate_show_name.restype = Part
     library.onnx_gate_needed.argtypes = [ctypes.c_char_p, size]
@@ -51,7 +51,7 @@ def _load() -> ctypes.CDLL:
 _library = _load()
 
 
-def check_indexed(model: bytes, operators: bytes, cells: int, extra: int, seed: int) -> Answer4:
+def check_indexed(model: bytes, operators: bytes, cells: int, extra: int, seed: int) -> Answered:
     """The indexed check in so many cells and extra cells. `model` and `operators` are bytes and of no class made from it."""
     lent = model, len(model), operators, len(operators)
     if cells + extra <= _FEW:

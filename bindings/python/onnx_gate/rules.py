@@ -36,6 +36,6 @@ RULES = {
     35: ("output-not-visible", "the graph's output is a name that nothing visible defines"),
     37: ("no-shape", "a tensor type of the main graph must have a shape"),
     38: ("negative-dim", "a dim_value is negative"),
-    40: ("cells-full", "more names are visible together than there are cells"),
+    40: ("cells-full", "more names are visible together than fit in the cells, two for each"),
     65: ("too-few-extra", "a program lent the indexed check fewer extra cells than four times its cells"),
 }

@@ -24,10 +24,14 @@ pub use refusal::Refusal;
 pub use rules::{rule, Rule, RULES};
 pub use sizing::{check, Checked, NoMemory, Options, MEMORY};
 
+use refusal::ALREADY_VISIBLE;
 use std::fmt;
 
 /// A model longer than this is refused with 7.
 pub const LARGEST_MODEL: usize = 2_147_483_647;
+
+/// The cells that a visible name takes, for its place and its length: an odd cell is of no use.
+pub const CELLS_PER_NAME: usize = 2;
 
 /// The two counts of an acceptance.
 #[derive(Clone, Copy, Debug, PartialEq, Eq)]
@@ -51,6 +55,7 @@ struct Answer {
     place: u64,
     nodes: u64,
     names: u64,
+    first: u64,
 }
 
 #[repr(C)]
@@ -86,13 +91,16 @@ impl Answer {
     fn told(self) -> Result<Accepted, Refusal> {
         match self.refusal {
             0 => Ok(Accepted { nodes: self.nodes, names: self.names }),
-            number => Err(Refusal { number, place: self.place as usize }),
+            number => {
+                let first = Some(self.first as usize).filter(|_| number == ALREADY_VISIBLE);
+                Err(Refusal { number, place: self.place as usize, first })
+            }
         }
     }
 }
 
-/// The check in the caller's cells, one for each name that may be visible at once, and with no index: its time grows
-/// with the square of the names. All cells are zero afterwards, whatever they held.
+/// The check in the caller's cells, `CELLS_PER_NAME` for each name that may be visible at once, and with no index: its
+/// time grows with the square of the names. All cells are zero afterwards, whatever they held.
 pub fn check_with(model: &[u8], operators: &[u8], cells: &mut [u32]) -> Result<Accepted, Refusal> {
     // SAFETY: a Rattle slice is a pointer and a length, never null here. The function only reads the model and
     // the list, writes only the cells, keeps none of them, and has no precondition.
@@ -110,8 +118,9 @@ pub fn check_with(model: &[u8], operators: &[u8], cells: &mut [u32]) -> Result<A
 }
 
 /// The same answer for every `seed`, by an index in extra cells; refused with 65 where these are fewer than four times
-/// the cells. With `4 * cells.len() + 2 + 4 * (model.len() / 7)` of them the time is linear, as long as whoever makes
-/// the model does not know the seed. All cells of both kinds are zero afterwards, whatever they held.
+/// the cells. With `4 * (cells.len() / 2) + 2 + 4 * (model.len() / 7)` of them, if that is more, the time is linear, as
+/// long as whoever makes the model does not know the seed. All cells of both kinds are zero afterwards, whatever they
+/// held.
 pub fn check_indexed(
     model: &[u8],
     operators: &[u8],

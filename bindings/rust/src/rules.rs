@@ -48,7 +48,7 @@ pub const RULES: [Rule; 36] = [
     of(35, "output-not-visible", "the graph's output is a name that nothing visible defines"),
     of(37, "no-shape", "a tensor type of the main graph must have a shape"),
     of(38, "negative-dim", "a dim_value is negative"),
-    of(40, "cells-full", "more names are visible together than there are cells"),
+    of(40, "cells-full", "more names are visible together than fit in the cells, two for each"),
     of(65, "too-few-extra", "a program lent the indexed check fewer extra cells than four times its cells"),
 ];
 

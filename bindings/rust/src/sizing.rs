@@ -1,14 +1,14 @@
 //! The check with cells of its own: how many, and under a seed that nobody knows.
 use crate::skim::{skim, Need};
-use crate::{check_indexed, check_with, operators, Accepted, Refusal, LARGEST_MODEL};
+use crate::{check_indexed, check_with, operators, Accepted, Refusal, CELLS_PER_NAME, LARGEST_MODEL};
 use std::alloc::{alloc_zeroed, Layout};
 use std::fmt;
 use std::hash::{BuildHasher, Hasher, RandomState};
 
 /// The most bytes that cells and extra cells take together, where nobody says otherwise. It is a bound and not a
 /// request: more cells are asked for as the answer 40 calls for them, and are real memory only where a name is kept. No
-/// model of `LARGEST_MODEL` bytes or less needs more than 19.3 GB, so that none is refused for it.
-pub const MEMORY: usize = 18 << 30;
+/// model of `LARGEST_MODEL` bytes or less needs more than 28.7 GB, so that none is refused for it.
+pub const MEMORY: usize = 27 << 30;
 
 const CELL: usize = size_of::<u32>();
 
@@ -30,22 +30,31 @@ const IMPORTED_TWICE: u64 = 13;
 /// Up to this size a model gets what any model of its size can need; a larger one is skimmed.
 const SMALL: usize = 4096 * LEAST_ENTRY;
 
+/// Lists with more names than this get room only where the library comes so far as to read them.
+const SHORT: usize = 65_536;
+
 /// The most cells of a first try: a file that is refused early costs no more of them, however many names it holds.
-const FIRST: usize = 65_536;
+const FIRST: usize = 65_536 * CELLS_PER_NAME;
 
 /// What cells are multiplied with after a 40. All tries before the last then have little more cells than it has.
 const GROWTH: usize = 8;
 
-const _: () = assert!(CELL * (5 * (LARGEST_MODEL / LEAST_NAME) + 2 + 4 * (LARGEST_MODEL / LEAST_ENTRY)) < MEMORY);
+/// The cells of both kinds that a model can need.
+const MOST: usize = {
+    let cells = of_names(LARGEST_MODEL / LEAST_NAME);
+    cells + linear(cells, LARGEST_MODEL / LEAST_ENTRY)
+};
+const _: () = assert!(CELL * MOST < MEMORY);
 
 /// What bounds a check, and its seed.
 #[derive(Clone, Copy, Debug, PartialEq, Eq)]
 pub struct Options {
-    /// The most names that may be visible at once. A model with more is refused with 40.
+    /// The most cells, `CELLS_PER_NAME` for each name that is visible. A model with more names at once than half of
+    /// them is refused with 40.
     pub cells: usize,
-    /// The most bytes of cells and extra cells together, 20 for each name. A model with more names is refused with 40;
-    /// one with long lists of named things, 16 for each, takes longer where they do not fit. Room that stays unused
-    /// counts here, though it is not real.
+    /// The most bytes of cells and extra cells together, 40 for each name. A model with more names is refused with 40;
+    /// one with longer lists of named things than it has names, 16 for each, takes longer where they do not fit. Room
+    /// that stays unused counts here, though it is not real.
     pub memory: usize,
     /// How names are spread over the index: no answer depends on it. Without one it is drawn from the system.
     pub seed: Option<u64>,
@@ -83,13 +92,14 @@ impl Options {
     pub fn check(&self, model: &[u8], operators: &[u8]) -> Result<Checked, NoMemory> {
         let seed = self.seed.unwrap_or_else(random);
         let need = need(model, operators);
-        let most = self.most(model.len());
-        let mut cells = need.names.min(FIRST).min(most);
+        let (counted, most) = (of_names(need.names), self.most(model.len()));
+        let mut cells = counted.min(FIRST).min(most);
         loop {
-            let (mut own, mut extra) = (zeroed(cells)?, zeroed(self.extra(cells, need.lists(cells)))?);
+            let lists = need.lists(cells / CELLS_PER_NAME);
+            let (mut own, mut extra) = (zeroed(cells)?, zeroed(self.extra(cells, lists))?);
             let answer = check_indexed(model, operators, &mut own, &mut extra, seed);
             // `enoughCells` in crates/rules/specs/Demands.antt: with more cells an answer stays, unless it is a 40
-            match next(cells, need.names, most) {
+            match next(cells, counted, most) {
                 Some(more) if matches!(answer, Err(refusal) if refusal.number == 40) => cells = more,
                 _ => return Ok(Checked { answer, cells }),
             }
@@ -98,13 +108,28 @@ impl Options {
 
     /// More cells than this are of no use to a model of this length, or are not allowed.
     fn most(&self, length: usize) -> usize {
-        self.cells.min(length / LEAST_NAME).min(self.memory / CELL / 5)
+        self.cells.min(of_names(length / LEAST_NAME)).min(self.memory / CELL / 5)
     }
 
-    /// Four for each cell, and as many for the names of lists as the memory has room for.
+    /// As many as are of use, or as the memory has room for: four for each cell at least, as `most` sees to.
     fn extra(&self, cells: usize, lists: usize) -> usize {
-        let left = self.memory / CELL - 5 * cells;
-        4 * cells + left.min(2 + 4 * lists)
+        linear(cells, lists).min(self.memory / CELL - cells)
+    }
+}
+
+/// The cells that so many names take.
+const fn of_names(names: usize) -> usize {
+    CELLS_PER_NAME * names
+}
+
+/// The extra cells beside which nothing takes more than linear time: four for each cell, in which the names of lists
+/// find room that the index of the visible names leaves.
+const fn linear(cells: usize, lists: usize) -> usize {
+    let (least, used) = (4 * cells, 4 * (cells / CELLS_PER_NAME) + 2 + 4 * lists);
+    if used > least {
+        used
+    } else {
+        least
     }
 }
 
@@ -127,7 +152,7 @@ fn need(model: &[u8], operators: &[u8]) -> Need {
         return Need::default();
     }
     let found = skim(model);
-    if found.free > FIRST && ends_before_lists(model, operators) {
+    if found.free > SHORT && ends_before_lists(model, operators) {
         return Need::default();
     }
     // no import is kept that the operator list does not have

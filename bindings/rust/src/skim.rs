@@ -8,17 +8,17 @@ pub struct Need {
     pub names: usize,
     /// Imports with a domain.
     pub imports: usize,
-    /// Names of lists that are open at once and each have a visible name to them, so that they are no more than the
-    /// cells: initializers of the main graph, or named nodes with an output.
+    /// Names of lists that are open at once and each have a visible name to them, so that they are no more than those:
+    /// initializers of the main graph, or named nodes with an output.
     pub bound: usize,
     /// Names of lists that are open at once and have none: attributes, and named nodes whose outputs are left out.
     pub free: usize,
 }
 
 impl Need {
-    /// Names of lists that are open at once in a walk with so many cells.
-    pub fn lists(&self, cells: usize) -> usize {
-        self.imports + self.bound.min(cells) + self.free
+    /// Names of lists that are open at once in a walk whose cells hold so many visible names.
+    pub fn lists(&self, names: usize) -> usize {
+        self.imports + self.bound.min(names) + self.free
     }
 }
 

@@ -6,6 +6,10 @@ fn list() -> Vec<u8> {
     operators::write(&[("", 7, 21)]).unwrap()
 }
 
+fn refused(number: u64, place: usize) -> Refusal {
+    Refusal { number, place, first: None }
+}
+
 fn bytes(hex: &str) -> Vec<u8> {
     hex.split_whitespace().map(|b| u8::from_str_radix(b, 16).unwrap()).collect()
 }
@@ -78,10 +82,64 @@ fn samples_of_document_01() {
     assert_eq!(line("0A", 0), "refused 4 at 0");
     assert_eq!(line("08 08 08 08", 0), "refused 5 at 2");
     assert_eq!(line("08 08 42 02 10 0D 3A 03 12 01 67", 0), "accepted nodes 0 names 0");
-    assert_eq!(line(m1, 1), "accepted nodes 1 names 1");
-    assert_eq!(line(m1, 0), "refused 40 at 13");
+    for cells in [2, 3, 9] {
+        assert_eq!(line(m1, cells), "accepted nodes 1 names 1");
+    }
     let reader = "08 08 42 02 10 0D 3A 0E 12 01 67 0A 09 0A 01 61 12 01 61 22 01 58";
-    assert_eq!(line(reader, 1), "refused 30 at 13");
+    let twice = "08 08 42 02 10 0D 3A 0E 12 01 67 0A 09 12 01 61 12 01 61 22 01 58";
+    for cells in [0, 1] {
+        assert_eq!(line(m1, cells), "refused 40 at 13");
+        assert_eq!(line(twice, cells), "refused 40 at 13");
+        assert_eq!(line(reader, cells), "refused 30 at 13");
+    }
+    for cells in [2, 3] {
+        assert_eq!(line(twice, cells), "refused 23 at 16 first 13");
+    }
+}
+
+/// Both places of a name that is defined twice: what is visible, in the order in which fields are judged.
+#[test]
+fn both_definitions() {
+    let model = |fields: &[&[u8]]| {
+        [&b"\x08\x08\x42\x02\x10\x0D"[..], &field_of(7, &[b"\x12\x01g", &fields.concat()[..]].concat())].concat()
+    };
+    let input = field_of(11, b"\x0A\x01w\x12\x06\x0A\x04\x08\x01\x12\x00");
+    let default = field_of(5, b"\x42\x01w\x10\x01");
+    let node = |output: &[u8], more: &[u8]| field_of(1, &[&field_of(2, output), &b"\x22\x01X"[..], more].concat());
+    let body = |graph: &[u8]| field_of(5, &[b"\x0A\x01k", &field_of(6, graph)[..], b"\xA0\x01\x05"].concat());
+    let (inner, twice) = (node(b"b", b""), node(b"w", b""));
+    let outer = node(b"a", &body(&[b"\x12\x01h", &inner[..]].concat()));
+    for (what, fields, place, first) in [
+        ("two initializers", vec![&default[..], &default], 20, 13),
+        ("a second default", vec![&input, &default, &default], 33, 13),
+        ("a second default before its input", vec![&default, &default, &input], 20, 27),
+        ("an output before its input", vec![&twice, &input], 13, 21),
+        ("what a body bound has vanished", vec![&outer, &inner, &inner], 50, 42),
+        ("in a body what is outside", vec![&inner, &outer], 39, 13),
+    ] {
+        let model = model(&fields);
+        let expected = Err(Refusal { number: 23, place, first: Some(first) });
+        for cells in [4, 5, 100] {
+            assert_eq!(check_with(&model, &list(), &mut vec![7; cells]), expected, "{what}");
+            assert_eq!(indexed(&model, cells, 4 * cells, 3), expected, "{what}");
+        }
+        assert_eq!(check(&model, &list()), expected, "{what}");
+    }
+    assert_eq!(check(&model(&[&default, &input]), &list()), Ok(Accepted { nodes: 0, names: 1 }));
+    assert_eq!(check(&model(&[&outer, &inner]), &list()), Ok(Accepted { nodes: 3, names: 2 }));
+}
+
+/// A second place is told with 23 alone, whatever the other numbers are.
+#[test]
+fn first_is_of_23() {
+    for number in (1..=100).chain([u64::MAX]) {
+        let told = Answer { refusal: number, place: 5, nodes: 0, names: 0, first: 7 }.told();
+        assert_eq!(told, Err(Refusal { number, place: 5, first: Some(7).filter(|_| number == 23) }));
+    }
+    let odd = Answer { refusal: 23, place: u64::MAX, nodes: 1, names: 2, first: 0 }.told().unwrap_err();
+    assert_eq!(odd.to_string(), format!("refused 23 at {} first 0", usize::MAX));
+    let accepted = Answer { refusal: 0, place: 1, nodes: 2, names: 3, first: 4 }.told();
+    assert_eq!(accepted, Ok(Accepted { nodes: 2, names: 3 }));
 }
 
 /// A tag, a value and a length, in a message that is opened and of unknown fields; behind each the same in its shortest form.
@@ -134,21 +192,22 @@ fn padding_and_another_fault() {
 #[test]
 fn too_large_comes_first() {
     let model = vec![0; LARGEST_MODEL + 1];
-    assert_eq!(check_with(&model, &[], &mut []), Err(Refusal { number: 7, place: 0 }));
-    assert_eq!(check_with(&model[1..], &[], &mut []), Err(Refusal { number: 8, place: 0 }));
-    assert_eq!(check(&model, &[]), Err(Refusal { number: 7, place: 0 }));
-    assert_eq!(check(&model[1..], &[]), Err(Refusal { number: 8, place: 0 }));
-    assert_eq!(check(&model[1..], &list()), Err(Refusal { number: 3, place: 0 }));
+    assert_eq!(check_with(&model, &[], &mut []), Err(refused(7, 0)));
+    assert_eq!(check_with(&model[1..], &[], &mut []), Err(refused(8, 0)));
+    assert_eq!(check(&model, &[]), Err(refused(7, 0)));
+    assert_eq!(check(&model[1..], &[]), Err(refused(8, 0)));
+    assert_eq!(check(&model[1..], &list()), Err(refused(3, 0)));
 }
 
 #[test]
 fn too_few_extra_cells_come_before_all() {
-    let too_few = Err(Refusal { number: 65, place: 0 });
+    let too_few = Err(refused(65, 0));
     let m1 = bytes("08 08 42 02 10 0D 3A 0B 12 01 67 0A 06 12 01 61 22 01 58");
-    for count in [1, 2, 9] {
+    for count in [2, 3, 9] {
         assert_eq!(indexed(&m1, count, 4 * count - 1, 7), too_few);
         assert_eq!(indexed(&m1, count, 4 * count, 7), Ok(Accepted { nodes: 1, names: 1 }));
     }
+    assert_eq!((indexed(&m1, 1, 3, 7), indexed(&m1, 1, 4, 7)), (too_few, Err(refused(40, 13))));
     assert_eq!(indexed(&m1, 3, 0, 7), too_few);
     assert_eq!(indexed(&vec![0; LARGEST_MODEL + 1], 1, 3, 7), too_few);
 }
@@ -167,9 +226,9 @@ fn every_rule_is_said() {
     let documents = [1..=16, 20..=35, 37..=38, 40..=40, 65..=65];
     assert_eq!(numbers, documents.into_iter().flatten().collect::<Vec<u64>>());
     assert!(RULES.iter().all(|r| !r.name.is_empty() && !r.explanation.is_empty() && !r.explanation.contains('\n')));
-    let refusal: Box<dyn std::error::Error> = Box::new(Refusal { number: 30, place: 13 });
+    let refusal: Box<dyn std::error::Error> = Box::new(refused(30, 13));
     assert_eq!(refusal.to_string(), "refused 30 at 13");
-    assert_eq!(Refusal { number: 99, place: 0 }.name(), "unknown");
+    assert_eq!(refused(99, 0).name(), "unknown");
 }
 
 #[test]

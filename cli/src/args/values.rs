@@ -4,7 +4,7 @@ use std::ffi::OsStr;
 use std::os::unix::ffi::OsStrExt;
 use std::str::FromStr;
 
-/// No model has more names than bytes.
+/// No model needs as many as it has bytes.
 const MOST_CELLS: usize = onnx_gate::LARGEST_MODEL;
 
 pub fn cells(value: &OsStr) -> Result<usize, String> {

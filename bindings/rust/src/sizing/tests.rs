@@ -28,7 +28,8 @@ fn under(options: Options, model: &[u8]) -> (String, usize) {
 
 #[test]
 fn any_number_of_names() {
-    for count in [0, 1, 100, 3000, 4000, FIRST - 1, FIRST, FIRST + 1, 100_000] {
+    let first = FIRST / CELLS_PER_NAME;
+    for count in [0, 1, 100, 3000, 4000, first - 1, first, first + 1, 100_000] {
         let model = outputs(count);
         let accepted = Accepted { nodes: 1, names: count as u64 };
         let expected = if count == 0 { Err(34) } else { Ok(accepted) };
@@ -43,7 +44,7 @@ fn answers_are_the_plain_ones() {
     let (mut accepted, mut refused) = (0, std::collections::BTreeSet::new());
     for model in damaged(40) {
         for model in [&model, &[&model, &doc_string[..]].concat()] {
-            for cells in [model.len(), 3] {
+            for cells in [model.len(), 7, 6, 1] {
                 let plain = check_with(model, &list(), &mut vec![0; cells]);
                 let options = Options { cells, ..Options::default() };
                 assert_eq!(options.check(model, &list()).unwrap().answer, plain, "{model:x?}");
@@ -59,21 +60,26 @@ fn answers_are_the_plain_ones() {
 fn limits_are_kept() {
     let small = outputs(50);
     let cells = |cells| Options { cells, seed: Some(3), ..Options::default() };
-    assert_eq!(under(cells(50), &small), ("accepted nodes 1 names 50".into(), 50));
-    assert_eq!(under(cells(49), &small), (full(&small, 1), 49));
+    assert_eq!(under(cells(101), &small), ("accepted nodes 1 names 50".into(), 101));
+    assert_eq!(under(cells(100), &small), ("accepted nodes 1 names 50".into(), 100));
+    assert_eq!(under(cells(99), &small), (full(&small, 1), 99));
+    assert_eq!(under(cells(98), &small), (full(&small, 1), 98));
+    assert_eq!(under(cells(97), &small), (full(&small, 2), 97));
+    assert_eq!(under(cells(1), &small), (full(&small, 50), 1));
     assert_eq!(under(cells(0), &small), (full(&small, 50), 0));
     let large = outputs(100_000);
-    assert_eq!(under(cells(100_000), &large), ("accepted nodes 1 names 100000".into(), 100_000));
-    assert_eq!(under(cells(99_999), &large), (full(&large, 1), 99_999));
+    assert_eq!(under(cells(200_000), &large), ("accepted nodes 1 names 100000".into(), 200_000));
+    assert_eq!(under(cells(199_999), &large), (full(&large, 1), 199_999));
 }
 
-/// 20 bytes for a name are enough, and a byte less is one name less.
+/// 40 bytes for a name are enough, and a byte less is one name less.
 #[test]
 fn memory_is_kept() {
     for (model, count) in [(outputs(50), 50), (outputs(100_000), 100_000)] {
         let memory = |memory| Options { memory, ..Options::default() };
-        assert_eq!(under(memory(20 * count), &model).0, format!("accepted nodes 1 names {count}"));
-        assert_eq!(under(memory(20 * count - 1), &model), (full(&model, 1), count - 1));
+        assert_eq!(under(memory(40 * count), &model).0, format!("accepted nodes 1 names {count}"));
+        assert_eq!(under(memory(40 * count - 1), &model), (full(&model, 1), 2 * count - 1));
+        assert_eq!(under(memory(40 * (count - 1)), &model), (full(&model, 1), 2 * count - 2));
         assert_eq!(under(memory(0), &model), (full(&model, count), 0));
     }
 }
@@ -98,10 +104,18 @@ fn zeroed_cells() {
 fn extra_cells_fit_the_memory() {
     let options = Options { memory: 4 * 100, ..Options::default() };
     assert_eq!(options.most(1_000_000), 20);
-    for (cells, lists, extra) in [(20, 9, 80), (19, 9, 81), (0, 3, 14), (0, 99, 100)] {
-        assert_eq!(options.extra(cells, lists), extra);
+    for (cells, lists, extra) in [(20, 9, 80), (20, 10, 80), (19, 9, 76), (19, 99, 81), (0, 3, 14), (0, 99, 100)] {
+        assert_eq!(options.extra(cells, lists), extra, "{cells} and {lists}");
     }
-    assert_eq!(Options::default().extra(10, 5), 62);
+}
+
+/// Never fewer than four for each cell; and those that the index leaves are for lists.
+#[test]
+fn extra_cells_of_use() {
+    for (cells, lists, extra) in [(0, 0, 2), (1, 0, 4), (2, 0, 8), (2, 1, 10), (10, 4, 40), (10, 5, 42), (11, 5, 44)] {
+        assert_eq!(linear(cells, lists), extra, "{cells} and {lists}");
+    }
+    assert_eq!(MOST, 10 * (LARGEST_MODEL / 3));
 }
 
 #[test]
@@ -123,14 +137,14 @@ const ATTRIBUTE: &[u8] = b"\x2A\x06\x0A\x01a\xA0\x01\x01";
 /// What is counted by the million and cannot be kept costs no memory in proportion.
 #[test]
 fn hostile_counts() {
-    let many = 2 * FIRST;
+    let many = 2 * SHORT;
     let asked = |model: &[u8]| {
         let need = need(model, &list());
-        let cells = need.names.min(FIRST);
-        cells + Options::default().extra(cells, need.lists(cells))
+        let cells = of_names(need.names).min(FIRST);
+        cells + Options::default().extra(cells, need.lists(cells / CELLS_PER_NAME))
     };
-    // five for each name of a first try, and four for each of its lists
-    let few = 5 * FIRST + 4 * FIRST + 100;
+    // five for each cell of a first try, in which its lists have room
+    let few = 5 * FIRST + 100;
     let import = b"\x42\x05\x0A\x01d\x10\x01";
     for (what, hostile) in [
         ("attributes of no bytes", model(&part(1, &b"\x2A\x00".repeat(many)))),
@@ -159,7 +173,7 @@ fn hostile_counts() {
 fn long_lists() {
     let name = |field: u8, first: char, i: usize| [&[field, 7][..], format!("{first}{i:06x}").as_bytes()].concat();
     let attribute = |i| part(5, &[&name(0x0A, 'a', i)[..], b"\xA0\x01\x01"].concat());
-    let count = FIRST + 1_000;
+    let count = SHORT + 1_000;
     let attributes: Vec<u8> = (0..count).flat_map(attribute).collect();
     let node = part(1, &[b"\x12\x01y\x22\x01X", &attributes[..]].concat());
     assert_eq!(check(&model(&node), &list()), Ok(Accepted { nodes: 1, names: 1 }));
@@ -176,8 +190,8 @@ fn long_lists() {
 /// All tries together have at most three times the cells of the last.
 #[test]
 fn tries_grow() {
-    for counted in [0, 1, FIRST, FIRST + 1, 8 * FIRST + 1, 1_000_000, LARGEST_MODEL / 3] {
-        let most = LARGEST_MODEL / 3;
+    let most = of_names(LARGEST_MODEL / 3);
+    for counted in [0, 2, FIRST, FIRST + 2, 8 * FIRST + 2, 2_000_000, most] {
         let mut tries = vec![counted.min(FIRST)];
         while let Some(cells) = next(tries[tries.len() - 1], counted, most).filter(|n| *n <= counted) {
             tries.push(cells);

@@ -72,7 +72,7 @@ fn lists_that_are_open_at_once() {
 }
 
 #[test]
-fn what_cells_bound() {
+fn what_names_bound() {
     let need = Need { names: 9, imports: 2, bound: 50, free: 300 };
     assert_eq!((need.lists(0), need.lists(7), need.lists(1000)), (302, 309, 352));
 }
