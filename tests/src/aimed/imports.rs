@@ -40,7 +40,7 @@ fn at_last(name: &str, number: u64, mut model: Tree) -> Row {
     let whole = model.encode();
     model.items.pop();
     let place = model.encode().len() as u64;
-    Row { name: name.into(), model: whole, list: list(), cells: 1, answer: Verdict::Refused { number, place } }
+    Row { name: name.into(), model: whole, list: list(), cells: 1, answer: Verdict::refused(number, place) }
 }
 
 fn few() -> Vec<Row> {
