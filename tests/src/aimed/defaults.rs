@@ -1,12 +1,30 @@
 //! Initializers of the main graph: names of their own, or defaults of inputs, each once.
 
+use super::imports::{self, import};
 use super::parts::*;
 use super::{accepted, defined, twice, AGAIN, MANY};
+use crate::checker::Verdict;
 use crate::models::proto::Tree;
 use crate::rows::Row;
+use crate::schema::Message;
 
 pub fn rows() -> Vec<Row> {
-    [few(), few_twice(), nested(), many(), many_between()].concat()
+    let crowded = [many(), many_between()].concat().into_iter().map(behind_imports).collect();
+    [few(), few_twice(), nested(), many(), many_between(), crowded].concat()
+}
+
+/// Behind many imports, which are remembered first: each input takes two cells, and with these come extra cells enough for its default.
+fn behind_imports(row: Row) -> Row {
+    let domains = names('d', MANY);
+    let imports = domains.iter().fold(Tree::new(Message::Model), |model, domain| model.tree(8, import(domain, 13)));
+    let imports = imports.encode();
+    let moved = |place: u64| place + imports.len() as u64;
+    let answer = match row.answer {
+        Verdict::Refused { place, first, .. } => Verdict::twice(moved(place), moved(first)),
+        accepted => accepted,
+    };
+    let name = format!("{}, behind many imports", row.name);
+    Row { name, model: [&imports[..], &row.model].concat(), list: imports::list(), answer, ..row }
 }
 
 /// A graph with these inputs and initializers, in this order on the wire.
