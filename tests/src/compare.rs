@@ -27,8 +27,9 @@ pub struct Tally {
     pub combinations: BTreeMap<Combination, u64>,
     pub runs: u64,
     pub reads: u64,
-    /// Answers of 23 whose `first` was held to the runner's defining place.
+    /// Answers of 23 whose `first` was held to the runner's defining place, and how many of these have it behind their own place.
     pub twice: u64,
+    pub behind: u64,
 }
 
 /// A failed comparison, with all that is needed to make it again.
@@ -100,7 +101,7 @@ impl Tally {
         Ok(most)
     }
 
-    /// A row with a known answer.
+    /// A row with a known answer, and then at other numbers of cells.
     pub fn row(&mut self, row: &Row) -> Outcome {
         self.cases += 1;
         let verdict = self.verdict(&row.name, &row.model, &row.list, row.cells, Tries::All)?;
@@ -162,12 +163,15 @@ impl Tally {
             return Err(format!("a place of the first definition is amiss: {verdict:?}"));
         }
         let expected = match verdict {
-            Verdict::Refused { number: 23, place, first } => End::BoundAgain { place, defined: first },
+            Verdict::Refused { number: 23, place, first } => {
+                self.twice += 1;
+                self.behind += u64::from(first > place);
+                End::BoundAgain { place, defined: first }
+            }
             Verdict::Refused { number: 30 | 35, place, .. } => End::Unbound { place },
             _ => return Ok(()),
         };
         self.runs += 1;
-        self.twice += u64::from(verdict.number() == 23);
         match Plan::read(model).run(&[]).end {
             end if end == expected => Ok(()),
             end => Err(format!("{verdict:?}, and the run that enters every body once: {end:?}")),

@@ -186,7 +186,7 @@ fn report(tally: &Tally, seconds: f64) {
     let per_second = tally.cases as f64 / seconds;
     println!("{} cases, {} verdicts in {seconds:.1} s ({per_second:.0} cases a second)", tally.cases, tally.verdicts);
     println!("{} bytes of generated models; {} runs of the runner, {} reads", tally.bytes, tally.runs, tally.reads);
-    println!("{} answers of 23, each with the runner's defining place", tally.twice);
+    println!("{} answers of 23 with the runner's defining place, {} of them before it", tally.twice, tally.behind);
     let least = tally.rarest().0;
     println!("{} calls of the indexed check, {} of them answered 65;", tally.indexed, tally.short);
     println!("each size of extra cells with each seed at least {least} times");
