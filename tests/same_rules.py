@@ -1,5 +1,6 @@
 #!/usr/bin/env python3
-"""Says whether C, Rust and Python have the same refusals, number, name and explanation, and the same version. Status 1 where not."""
+"""Says whether C, Rust and Python have the same refusals, number, name and explanation, the same version, and as many cells for a name.
+Status 1 where not."""
 
 import ast
 import re
@@ -9,6 +10,7 @@ from pathlib import Path
 BINDINGS = Path(__file__).resolve().parent.parent / "bindings"
 HEADER = (BINDINGS / "c/onnx_gate.h").read_text()
 PYTHON = BINDINGS / "python/onnx_gate"
+CHECKER = BINDINGS.parent / "tests/src/checker.rs"
 
 
 def of_c():
@@ -37,15 +39,28 @@ def versions():
     return {language: match[1] for language, match in found.items()}
 
 
+def cells():
+    """How wide a record is: each language states it once, and the checker too."""
+    found = {
+        "C": re.search(r"^#define ONNX_GATE_CELLS_PER_NAME (\d+)", HEADER, re.MULTILINE),
+        "Rust": re.search(r"^pub const CELLS_PER_NAME: usize = (\d+);", (BINDINGS / "rust/src/lib.rs").read_text(), re.MULTILINE),
+        "Python": re.search(r"^CELLS_PER_NAME = (\d+)", (PYTHON / "_sizing.py").read_text(), re.MULTILINE),
+        "the checker": re.search(r"^pub const CELLS_PER_NAME: usize = (\d+);", CHECKER.read_text(), re.MULTILINE),
+    }
+    return {language: match and match[1] for language, match in found.items()}
+
+
 def main():
     rust, wrong = of_rust(), []
     for language, table in {"C": of_c(), "Python": of_python()}.items():
         wrong += [f"{language}: {table.get(n)}, Rust: {rust.get(n)} for {n}" for n in rust.keys() | table if table.get(n) != rust.get(n)]
     if len(set(versions().values())) != 1:
         wrong.append(f"versions: {versions()}")
+    if len(set(cells().values())) != 1:
+        wrong.append(f"cells for a name: {cells()}")
     if wrong or len(rust) < 36:
         sys.exit("\n".join(["same_rules.py: the bindings differ", *wrong]))
-    print(f"{len(rust)} refusals and the version are the same in C, Rust and Python")
+    print(f"{len(rust)} refusals, the version and the cells for a name are the same in C, Rust and Python")
 
 
 if __name__ == "__main__":

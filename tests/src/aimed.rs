@@ -11,7 +11,7 @@ mod parts;
 mod scopes;
 mod starts;
 
-use crate::checker::Verdict;
+use crate::checker::{Verdict, CELLS_PER_NAME};
 use crate::models::lists::L;
 use crate::rows::Row;
 
@@ -32,13 +32,24 @@ const AGAIN: [usize; 6] = [0, 1, 6, 7, 13, MANY - 1];
 
 fn accepted(name: &str, model: Vec<u8>, nodes: usize, names: usize) -> Row {
     let answer = Verdict::Accepted { nodes: nodes as u64, names: names as u64 };
-    Row { name: name.into(), model, list: L.to_vec(), cells: names, answer }
+    Row { name: name.into(), model, list: L.to_vec(), cells: CELLS_PER_NAME * names, answer }
 }
 
 /// Refused at the `nth` field, counted from 0, with this tag and these contents. There are cells enough.
 fn refused(name: &str, model: Vec<u8>, number: u64, field: (u8, &str, usize)) -> Row {
-    let place = place_of(&model, field);
-    Row { name: name.into(), model, list: L.to_vec(), cells: 3 * MANY, answer: Verdict::Refused { number, place } }
+    let answer = Verdict::refused(number, place_of(&model, field));
+    Row { name: name.into(), model, list: L.to_vec(), cells: CELLS_PER_NAME * 3 * MANY, answer }
+}
+
+/// 23 at such a field. `first`: which field with the same tag and contents defines the name.
+fn twice(name: &str, model: Vec<u8>, (tag, contents, nth): (u8, &str, usize), first: usize) -> Row {
+    defined(name, model, (tag, contents, nth), (tag, contents, first))
+}
+
+/// 23 at the first of these fields, where the second one defines the name.
+fn defined(name: &str, model: Vec<u8>, field: (u8, &str, usize), first: (u8, &str, usize)) -> Row {
+    let answer = Verdict::twice(place_of(&model, field), place_of(&model, first));
+    Row { answer, ..refused(name, model, 23, field) }
 }
 
 fn place_of(model: &[u8], (tag, contents, nth): (u8, &str, usize)) -> u64 {

@@ -1,6 +1,7 @@
 //! The bucket of a name, from the text of crates/index/specs/Bucket.antt, and names made to share one.
 //! A right answer never depends on this: it only makes the index slow. So nothing is lost but the aim if the hash changes.
 
+use crate::checker::CELLS_PER_NAME;
 use crate::parts::identifier;
 
 /// A Mersenne prime, 2^31 - 1.
@@ -30,7 +31,7 @@ pub fn bucket(seed: u64, size: u64, name: &[u8]) -> u64 {
 
 /// How many buckets the visible names have, with so many cells and extra cells. The layout may change.
 pub fn visible_buckets(cells: usize, extra: usize) -> u64 {
-    let own = extra.min(4 * cells + 1);
+    let own = extra.min(4 * (cells / CELLS_PER_NAME) + 1);
     (own.saturating_sub(1) as u64 / 4).min(u64::from(u32::MAX))
 }
 

@@ -2,39 +2,41 @@
 //! and not from the crates.
 //! It is linear in the model: each message is scanned a fixed number of times, names go through hashing.
 
-use std::collections::HashSet;
-use std::fmt;
+use std::collections::{HashMap, HashSet};
 
 use crate::header::header;
 use crate::oplist;
 use crate::parts::{all, contents, first, identifier, number_in, refuse, Step};
 use crate::schema;
+pub use crate::verdict::{Refusal, Verdict};
 use crate::wire::{fields, Field};
-
-/// The answer of document 01: two counts, or a number and a place.
-#[derive(Clone, Copy, Debug, PartialEq, Eq)]
-pub enum Verdict {
-    Accepted { nodes: u64, names: u64 },
-    Refused { number: u64, place: u64 },
-}
-
-#[derive(Clone, Copy, Debug, PartialEq, Eq)]
-pub struct Refusal {
-    pub number: u64,
-    pub place: u64,
-}
 
 /// The largest model, in bytes.
 pub const LARGEST_MODEL: usize = 2_147_483_647;
 
+/// How wide a scope record is: "Each scope record now holds place and length, so a name takes two cells".
+pub const CELLS_PER_NAME: usize = 2;
+
 pub fn check(model: &[u8], list: &[u8], cells: usize) -> Verdict {
-    match judge(model, list, cells) {
+    verdict(judge(model, list, cells, &mut 0))
+}
+
+/// The verdict with no bound on the cells, and how many it takes: with fewer it is 40.
+pub fn unbounded(model: &[u8], list: &[u8]) -> (Verdict, usize) {
+    let mut names = 0;
+    let judged = judge(model, list, usize::MAX, &mut names);
+    (verdict(judged), CELLS_PER_NAME * names)
+}
+
+fn verdict(judged: Result<(u64, u64), Refusal>) -> Verdict {
+    match judged {
         Ok((nodes, names)) => Verdict::Accepted { nodes, names },
-        Err(Refusal { number, place }) => Verdict::Refused { number, place },
+        Err(Refusal { number, place, first }) => Verdict::Refused { number, place, first },
     }
 }
 
-fn judge(model: &[u8], list: &[u8], cells: usize) -> Result<(u64, u64), Refusal> {
+/// The counts of an acceptance. `most` is set to the most names that were visible together, whatever the end.
+fn judge(model: &[u8], list: &[u8], cells: usize, most: &mut usize) -> Result<(u64, u64), Refusal> {
     if model.len() > LARGEST_MODEL {
         return refuse(7, 0);
     }
@@ -43,9 +45,11 @@ fn judge(model: &[u8], list: &[u8], cells: usize) -> Result<(u64, u64), Refusal>
     };
     schema::first_walk(model)?;
     let (graph, imports) = header(model, &operators)?;
-    let mut judge = Judge { model, imports, cells, visible: HashSet::new(), trail: Vec::new(), nodes: 0, names: 0 };
-    judge.graph(graph, true)?;
-    Ok((judge.nodes, judge.names as u64))
+    let room = cells / CELLS_PER_NAME;
+    let mut judge = Judge { model, imports, room, visible: HashMap::new(), trail: Vec::new(), nodes: 0, names: 0 };
+    let done = judge.graph(graph, true);
+    *most = judge.names;
+    done.map(|()| (judge.nodes, judge.names as u64))
 }
 
 /// For each attribute type from 1 to 14 the field that carries its value.
@@ -55,9 +59,10 @@ const CARRIERS: [u32; 14] = [2, 3, 4, 5, 6, 7, 8, 9, 10, 11, 22, 23, 14, 15];
 struct Judge<'m> {
     model: &'m [u8],
     imports: HashSet<&'m [u8]>,
-    cells: usize,
-    /// The names visible now, and the same in the order in which they became so.
-    visible: HashSet<&'m [u8]>,
+    /// How many names may be visible together.
+    room: usize,
+    /// The names visible now with their places, and the names in the order in which they became visible.
+    visible: HashMap<&'m [u8], usize>,
     trail: Vec<&'m [u8]>,
     nodes: u64,
     names: usize,
@@ -236,52 +241,23 @@ impl<'m> Judge<'m> {
     }
 
     fn bind(&mut self, name: &'m [u8], place: usize) -> Step {
-        if self.visible.contains(name) {
-            return refuse(23, place);
+        if let Some(&first) = self.visible.get(name) {
+            return Err(Refusal { number: 23, place: place as u64, first: first as u64 });
         }
-        if self.trail.len() == self.cells {
+        if self.trail.len() == self.room {
             return refuse(40, place);
         }
-        self.visible.insert(name);
+        self.visible.insert(name, place);
         self.trail.push(name);
         self.names = self.names.max(self.trail.len());
         Ok(())
     }
 
     fn use_name(&self, name: &[u8], place: usize, absent: u64) -> Step {
-        if self.visible.contains(name) {
+        if self.visible.contains_key(name) {
             Ok(())
         } else {
             refuse(absent, place)
-        }
-    }
-}
-
-/// The refusal numbers of document 01 and its changes, for those who count what was reached.
-pub fn refusal_numbers() -> Vec<u64> {
-    let mut numbers = vec![1, 2, 3, 4, 5, 6, 7, 8, 9, 40];
-    numbers.extend(10..=16);
-    numbers.extend(20..=35);
-    numbers.extend([37, 38]);
-    numbers.sort_unstable();
-    numbers
-}
-
-/// As the program prints it.
-impl fmt::Display for Verdict {
-    fn fmt(&self, f: &mut fmt::Formatter<'_>) -> fmt::Result {
-        match self {
-            Verdict::Accepted { nodes, names } => write!(f, "accepted nodes {nodes} names {names}"),
-            Verdict::Refused { number, place } => write!(f, "refused {number} at {place}"),
-        }
-    }
-}
-
-impl Verdict {
-    pub fn number(self) -> u64 {
-        match self {
-            Verdict::Accepted { .. } => 0,
-            Verdict::Refused { number, .. } => number,
         }
     }
 }

@@ -3,13 +3,14 @@
 
 use std::collections::{BTreeMap, HashMap};
 
-use crate::checker::{check, refusal_numbers, Verdict};
+use crate::checker::{check, unbounded};
 use crate::lending::{self, Combination, Lending, Tries};
 use crate::library::{indexed_agrees, indexed_answer, plain_agrees};
 use crate::models::Case;
 use crate::rng::Rng;
 use crate::rows::Row;
 use crate::runner::{End, Plan, Run};
+use crate::verdict::{refusal_numbers, Verdict};
 
 /// What was done so far.
 #[derive(Default)]
@@ -26,6 +27,9 @@ pub struct Tally {
     pub combinations: BTreeMap<Combination, u64>,
     pub runs: u64,
     pub reads: u64,
+    /// Answers of 23 whose `first` was held to the runner's defining place, and how many of these have it behind their own place.
+    pub twice: u64,
+    pub behind: u64,
 }
 
 /// A failed comparison, with all that is needed to make it again.
@@ -42,6 +46,10 @@ pub struct Failure {
 const SHOWN: usize = 1 << 20;
 
 pub type Outcome = Result<(), Box<Failure>>;
+
+/// Up to this need every number of cells is tried, in a generated case and in a row.
+const FEW_CELLS: usize = 8;
+const ROW_CELLS: usize = 200;
 
 /// Calls of the indexed check for each call of the plain one in a generated case; rows are tried with every kind of call.
 const TRIES: usize = 2;
@@ -62,37 +70,50 @@ impl Tally {
     pub fn case(&mut self, case: &Case, rng: &mut Rng) -> Outcome {
         self.cases += 1;
         self.bytes += case.model.len() as u64;
-        let at = |cells: usize, told: String| Err(failure(&case.label, &case.model, &case.list, cells, told));
-        let most = check(&case.model, &case.list, usize::MAX);
+        let at = |told: String| failure(&case.label, &case.model, &case.list, usize::MAX, told);
+        let most = self.each_count(&case.label, &case.model, &case.list, FEW_CELLS, rng)?;
         if let Some((nodes, names)) = case.expected {
             if most != (Verdict::Accepted { nodes, names }) {
-                return at(
-                    usize::MAX,
-                    format!("made sound with {nodes} nodes, {names} names; the checker says {most:?}"),
-                );
+                return Err(at(format!("made sound with {nodes} nodes, {names} names; the checker says {most:?}")));
             }
         }
-        for cells in cell_counts(most, rng) {
-            let verdict = self.verdict(&case.label, &case.model, &case.list, cells, Tries::Some(TRIES, rng))?;
-            if !agrees_with_unbounded(verdict, most, cells) {
-                return at(cells, format!("with no bound on the cells {most:?}, with {cells} {verdict:?}"));
-            }
-        }
-        self.demand_3(&case.model, most, rng).or_else(|told| at(usize::MAX, told))
+        self.demand_3(&case.model, most, rng).map_err(at)
     }
 
-    /// A row with a known answer.
+    /// The answer with numbers of cells around what it takes: 40 with fewer, with as many or more what it is with no bound.
+    fn each_count(
+        &mut self,
+        label: &str,
+        model: &[u8],
+        list: &[u8],
+        all: usize,
+        rng: &mut Rng,
+    ) -> Result<Verdict, Box<Failure>> {
+        let (most, need) = unbounded(model, list);
+        for cells in cell_counts(need, all, rng) {
+            let verdict = self.verdict(label, model, list, cells, Tries::Some(TRIES, rng))?;
+            let right = if cells < need { verdict.number() == 40 } else { verdict == most };
+            if !right {
+                let told = format!("with no bound {most:?}, which takes {need} cells, with {cells} {verdict:?}");
+                return Err(failure(label, model, list, cells, told));
+            }
+        }
+        Ok(most)
+    }
+
+    /// A row with a known answer, and then at other numbers of cells.
     pub fn row(&mut self, row: &Row) -> Outcome {
         self.cases += 1;
         let verdict = self.verdict(&row.name, &row.model, &row.list, row.cells, Tries::All)?;
-        if verdict == row.answer {
-            return Ok(());
+        if verdict != row.answer {
+            let told = format!("the row says {:?}, the checker {verdict:?}", row.answer);
+            return Err(failure(&row.name, &row.model, &row.list, row.cells, told));
         }
-        let told = format!("the row says {:?}, the checker {verdict:?}", row.answer);
-        Err(failure(&row.name, &row.model, &row.list, row.cells, told))
+        let mut rng = Rng::of_case(row.cells as u64, row.model.len() as u64);
+        self.each_count(&row.name, &row.model, &row.list, ROW_CELLS, &mut rng).map(|_| ())
     }
 
-    /// The checker's verdict, which that of the library must equal, plain and indexed.
+    /// The checker's verdict, which that of the library must equal, plain and indexed, and the runner must bear out.
     pub fn verdict(
         &mut self,
         label: &str,
@@ -106,6 +127,7 @@ impl Tally {
         *self.numbers.entry(verdict.number()).or_default() += 1;
         let at = |told: String| failure(label, model, list, cells, told);
         plain_agrees(model, list, cells, verdict).map_err(at)?;
+        self.stops(model, verdict).map_err(at)?;
         for (kind, lending) in tries.lendings(cells, model.len()) {
             *self.combinations.entry(kind).or_default() += 1;
             self.indexed(model, list, cells, lending, verdict).map_err(at)?;
@@ -130,15 +152,29 @@ impl Tally {
     fn demand_3(&mut self, model: &[u8], verdict: Verdict, rng: &mut Rng) -> Result<(), String> {
         match verdict {
             Verdict::Accepted { nodes, names } => self.every_run_ends(model, nodes, names, rng),
-            Verdict::Refused { number: number @ (23 | 30 | 35), place } => {
-                let run = Plan::read(model).run(&[]);
-                self.runs += 1;
-                match run.end {
-                    End::Stopped { place: stopped } if stopped == place => Ok(()),
-                    end => Err(format!("refused {number} at {place}, the run that enters every body once: {end:?}")),
-                }
+            Verdict::Refused { .. } => self.stops(model, verdict),
+        }
+    }
+
+    /// 23 stops the run that enters every body once, on a binding, and `first` is the defining place that this finds; 30 and 35 stop
+    /// it on a read. No other answer has a `first`.
+    fn stops(&mut self, model: &[u8], verdict: Verdict) -> Result<(), String> {
+        if !verdict.tells_first(model.len()) {
+            return Err(format!("a place of the first definition is amiss: {verdict:?}"));
+        }
+        let expected = match verdict {
+            Verdict::Refused { number: 23, place, first } => {
+                self.twice += 1;
+                self.behind += u64::from(first > place);
+                End::BoundAgain { place, defined: first }
             }
-            Verdict::Refused { .. } => Ok(()),
+            Verdict::Refused { number: 30 | 35, place, .. } => End::Unbound { place },
+            _ => return Ok(()),
+        };
+        self.runs += 1;
+        match Plan::read(model).run(&[]).end {
+            end if end == expected => Ok(()),
+            end => Err(format!("{verdict:?}, and the run that enters every body once: {end:?}")),
         }
     }
 
@@ -179,26 +215,17 @@ pub(crate) fn failure(label: &str, model: &[u8], list: &[u8], cells: usize, told
     Box::new(Failure { label: label.into(), model, list: list.to_vec(), cells, told })
 }
 
-/// An acceptance needs its names as cells and no more; with too few cells the answer is 40, or a refusal that comes
-/// before the cells run out.
-fn agrees_with_unbounded(verdict: Verdict, most: Verdict, cells: usize) -> bool {
-    match most {
-        Verdict::Accepted { names, .. } if (cells as u64) < names => verdict.number() == 40,
-        Verdict::Accepted { .. } => verdict == most,
-        Verdict::Refused { .. } => verdict == most || verdict.number() == 40,
-    }
-}
-
-/// Around the need of an acceptance; for a refusal none, a few and many.
-fn cell_counts(most: Verdict, rng: &mut Rng) -> Vec<usize> {
-    let many = if rng.chance(1, 8) { 4096 } else { 60 + rng.below(60) };
-    let mut counts = match most {
-        Verdict::Accepted { names, .. } => {
-            let need = names as usize;
-            vec![need.saturating_sub(1), need, need + 1, 0, need + many]
-        }
-        Verdict::Refused { .. } => vec![0, 1 + rng.below(8), many],
+/// From none to twice the need and one more, odd and even, and many: all of them where the need is at most `all`, else those at both
+/// ends, around the need, and some between.
+fn cell_counts(need: usize, all: usize, rng: &mut Rng) -> Vec<usize> {
+    let last = 2 * need + 1;
+    let mut counts: Vec<usize> = if need <= all {
+        (0..=last).collect()
+    } else {
+        let drawn = 2 + rng.below(last - 3);
+        vec![0, 1, need - 2, need - 1, need, need + 1, drawn, drawn + 1, last - 1, last]
     };
+    counts.push(last + if rng.chance(1, 8) { 4096 } else { 60 + rng.below(60) });
     counts.sort_unstable();
     counts.dedup();
     counts

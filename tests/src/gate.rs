@@ -9,11 +9,12 @@ use crate::checker::Verdict;
 /// The answer as it crosses: `refusal` is 0 for an acceptance; numbers that do not apply are 0.
 #[repr(C)]
 #[derive(Clone, Copy, Debug, PartialEq, Eq)]
-pub struct Verdict4 {
+pub struct Answer {
     pub refusal: u64,
     pub place: u64,
     pub nodes: u64,
     pub names: u64,
+    pub first: u64,
 }
 
 extern "C" {
@@ -24,7 +25,7 @@ extern "C" {
         list_len: usize,
         cells_ptr: *mut u32,
         cells_len: usize,
-    ) -> Verdict4;
+    ) -> Answer;
     fn onnx_gate_check_indexed(
         model_ptr: *const u8,
         model_len: usize,
@@ -35,17 +36,17 @@ extern "C" {
         extra_ptr: *mut u32,
         extra_len: usize,
         seed: u64,
-    ) -> Verdict4;
+    ) -> Answer;
 }
 
 /// The library's whole answer, as it came.
-pub fn raw_check(model: &[u8], list: &[u8], cells: &mut [u32]) -> Verdict4 {
+pub fn raw_check(model: &[u8], list: &[u8], cells: &mut [u32]) -> Answer {
     // The three slices live through the call, and the library has no other way to reach memory of ours.
     unsafe { onnx_gate_check(model.as_ptr(), model.len(), list.as_ptr(), list.len(), cells.as_mut_ptr(), cells.len()) }
 }
 
 /// The same of the indexed check.
-pub fn raw_check_indexed(model: &[u8], list: &[u8], cells: &mut [u32], extra: &mut [u32], seed: u64) -> Verdict4 {
+pub fn raw_check_indexed(model: &[u8], list: &[u8], cells: &mut [u32], extra: &mut [u32], seed: u64) -> Answer {
     // The four slices live through the call, and the two that are written are two.
     unsafe {
         onnx_gate_check_indexed(
@@ -62,18 +63,18 @@ pub fn raw_check_indexed(model: &[u8], list: &[u8], cells: &mut [u32], extra: &m
     }
 }
 
-impl Verdict4 {
+impl Answer {
     /// The answer as a verdict; Err where a number that does not apply is not 0.
     pub fn verdict(self) -> Result<Verdict, String> {
         let accepted = self.refusal == 0;
         let stray = if accepted { self.place != 0 } else { self.nodes != 0 || self.names != 0 };
-        if stray {
+        if stray || self.refusal != 23 && self.first != 0 {
             return Err(format!("a number that does not apply is not 0: {self:?}"));
         }
         if accepted {
             Ok(Verdict::Accepted { nodes: self.nodes, names: self.names })
         } else {
-            Ok(Verdict::Refused { number: self.refusal, place: self.place })
+            Ok(Verdict::Refused { number: self.refusal, place: self.place, first: self.first })
         }
     }
 }

@@ -2,9 +2,9 @@
 
 use std::collections::HashSet;
 
-use crate::checker::Refusal;
 use crate::oplist::{self, OperatorList};
 use crate::parts::{all, contents, first, number_in, refuse};
+use crate::verdict::Refusal;
 use crate::wire::{Field, BYTES};
 
 /// 10, 11, 12, each import (13 then 14), 15. Hands back the main graph and the imported domains.

@@ -20,7 +20,7 @@ impl Lending {
 type Size = fn(cells: usize, bytes: usize, rng: &mut Rng) -> Option<usize>;
 type Seed = fn(rng: &mut Rng) -> u64;
 
-/// From `4n + 2` on, each further four cells make room for one name of a list.
+/// The visible names take 4 for each two of the cells, and 1; of what is left, each four make room for one name of a list.
 #[rustfmt::skip]
 pub const SIZES: [(&str, Size); 10] = [
     ("4n - 1", |n, _, _| (4 * n).checked_sub(1)),

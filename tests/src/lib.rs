@@ -22,4 +22,5 @@ pub mod runner;
 pub mod schema;
 pub mod spellings;
 pub mod sweeps;
+pub mod verdict;
 pub mod wire;

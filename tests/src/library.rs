@@ -1,7 +1,7 @@
 //! Both checks of the proved library, held to a verdict.
 
 #[cfg(feature = "library")]
-use crate::gate::{raw_check, raw_check_indexed, Verdict4};
+use crate::gate::{raw_check, raw_check_indexed, Answer};
 #[cfg(feature = "library")]
 use crate::lent::Lent;
 
@@ -11,7 +11,7 @@ use crate::lending::Lending;
 /// The answer of the indexed check, given that of the plain one.
 pub fn indexed_answer(plain: Verdict, cells: usize, lending: Lending) -> Verdict {
     if lending.is_short(cells) {
-        Verdict::Refused { number: 65, place: 0 }
+        Verdict::refused(65, 0)
     } else {
         plain
     }
@@ -39,7 +39,7 @@ pub fn indexed_agrees(model: &[u8], list: &[u8], cells: usize, lending: Lending,
 }
 
 #[cfg(feature = "library")]
-fn agrees(answer: Verdict4, expected: Verdict, who: &str) -> Result<(), String> {
+fn agrees(answer: Answer, expected: Verdict, who: &str) -> Result<(), String> {
     match answer.verdict()? {
         got if got == expected => Ok(()),
         got => Err(format!("the checker says {expected:?}, the {who} {got:?}")),

@@ -102,8 +102,8 @@ fn run(settings: &Settings, tally: &mut Tally) -> Outcome {
         tally.row(row)?;
         tally.spellings(row)?;
     }
-    for row in rows::positions() {
-        tally.row(&row)?;
+    for row in rows::positions().iter().chain(&rows::wide()) {
+        tally.row(row)?;
     }
     aimed_models(tally)?;
     short_models(tally)?;
@@ -186,6 +186,7 @@ fn report(tally: &Tally, seconds: f64) {
     let per_second = tally.cases as f64 / seconds;
     println!("{} cases, {} verdicts in {seconds:.1} s ({per_second:.0} cases a second)", tally.cases, tally.verdicts);
     println!("{} bytes of generated models; {} runs of the runner, {} reads", tally.bytes, tally.runs, tally.reads);
+    println!("{} answers of 23 with the runner's defining place, {} of them before it", tally.twice, tally.behind);
     let least = tally.rarest().0;
     println!("{} calls of the indexed check, {} of them answered 65;", tally.indexed, tally.short);
     println!("each size of extra cells with each seed at least {least} times");

@@ -2,13 +2,13 @@
 
 use std::ops::RangeInclusive;
 
-use crate::checker::Refusal;
+use crate::verdict::Refusal;
 use crate::wire::{fields, Field};
 
 pub type Step = Result<(), Refusal>;
 
 pub fn refuse<T>(number: u64, place: usize) -> Result<T, Refusal> {
-    Err(Refusal { number, place: place as u64 })
+    Err(Refusal { number, place: place as u64, first: 0 })
 }
 
 /// The field `number` of `message`, read as a signed number, lies in `range`. An absent one reads as 0.

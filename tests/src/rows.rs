@@ -6,13 +6,16 @@ mod large;
 mod lengths;
 mod padded;
 mod positions;
+mod twice;
 mod versions;
+mod wide;
 
 pub use by_hand::by_hand;
 pub use large::large;
 pub use positions::positions;
+pub use wide::wide;
 
-use crate::checker::Verdict::{self, Accepted, Refused};
+use crate::checker::Verdict;
 use crate::models::lists::L;
 use crate::models::proto::Tree;
 use crate::schema::Message;
@@ -41,11 +44,15 @@ fn row(name: &str, model: Vec<u8>, list: &[u8], cells: usize, answer: Verdict) -
 }
 
 fn refused(number: u64, place: u64) -> Verdict {
-    Refused { number, place }
+    Verdict::refused(number, place)
+}
+
+fn twice(place: u64, first: u64) -> Verdict {
+    Verdict::twice(place, first)
 }
 
 fn accepted(nodes: u64, names: u64) -> Verdict {
-    Accepted { nodes, names }
+    Verdict::Accepted { nodes, names }
 }
 
 /// The table "Sample models under L" of document 01, all but the two rows of the largest size (`large`).
@@ -60,10 +67,11 @@ pub fn document() -> Vec<Row> {
         ("ir_version -1", format!("08 {nine_ff} 01"), 0, refused(10, 0)),
         ("tenth byte 2", format!("08 {nine_ff} 02"), 0, refused(2, 0)),
         ("M0", M0.into(), 0, accepted(0, 0)),
-        ("M1, 1 cell", M1.into(), 1, accepted(1, 1)),
+        ("M1, 2 cells", M1.into(), 2, accepted(1, 1)),
+        ("M1, 1 cell", M1.into(), 1, refused(40, 13)),
         ("M1, 0 cells", M1.into(), 0, refused(40, 13)),
         ("M1 that reads itself", SELF_READER.into(), 1, refused(30, 13)),
-        ("M1 that binds twice", TWICE.into(), 1, refused(23, 16)),
+        ("M1 that binds twice", TWICE.into(), 2, twice(16, 13)),
     ]
     .into_iter()
     .map(|(name, model, cells, answer): (&str, String, usize, Verdict)| row(name, hex(&model), &L, cells, answer))
@@ -105,6 +113,7 @@ mod tests {
     use super::by_hand::in_graph;
     use super::*;
     use crate::checker::check;
+    use crate::checker::Verdict::{Accepted, Refused};
     use crate::runner::{run, End, Read};
 
     fn holds(rows: impl IntoIterator<Item = Row>) {
@@ -129,6 +138,11 @@ mod tests {
     }
 
     #[test]
+    fn the_rows_with_long_names_and_many() {
+        holds(wide());
+    }
+
+    #[test]
     fn each_position_of_a_padded_varint() {
         assert!(positions().len() > 1_000);
         holds(positions());
@@ -137,28 +151,29 @@ mod tests {
     /// Demand 3 on the rows: accepted models run to their end, and 23, 30 and 35 stop the run at their place.
     #[test]
     fn the_runner_on_all_rows() {
-        for row in document().into_iter().chain(by_hand()).chain(large()) {
-            let end = run(&row.model, &[]).end;
-            match row.answer {
-                Accepted { .. } => assert_eq!(end, End::Reached, "{}", row.name),
-                Refused { number: 23 | 30 | 35, place } => assert_eq!(end, End::Stopped { place }, "{}", row.name),
-                Refused { .. } => {}
-            }
+        for row in document().into_iter().chain(by_hand()).chain(wide()).chain(large()) {
+            let expected = match row.answer {
+                Accepted { .. } => End::Reached,
+                Refused { number: 23, place, first } => End::BoundAgain { place, defined: first },
+                Refused { number: 30 | 35, place, .. } => End::Unbound { place },
+                Refused { .. } => continue,
+            };
+            assert_eq!(run(&row.model, &[]).end, expected, "{}", row.name);
         }
     }
 
     /// The checker refuses them, and the runner reads them as it always did.
     #[test]
     fn the_runner_on_padded_varints() {
+        let again = End::BoundAgain { place: 17, defined: 13 };
         for (name, graph, end) in [
-            ("30 behind a padded tag", "12 01 67 0A 0A 8A 00 01 61 12 01 61 22 01 58", Some(13)),
-            ("23 with a padded length", "12 01 67 0A 0A 12 01 61 12 81 00 61 22 01 58", Some(16)),
-            ("35 in a padded output", "12 01 67 E2 80 00 83 00 0A 01 62", Some(16)),
-            ("a sound node, padded", "12 01 67 8A 00 87 00 12 81 00 61 22 01 58", None),
+            ("30 behind a padded tag", "12 01 67 0A 0A 8A 00 01 61 12 01 61 22 01 58", End::Unbound { place: 13 }),
+            ("23 of padded names", "12 01 67 0A 0B 92 00 01 61 12 81 00 61 22 01 58", again),
+            ("35 in a padded output", "12 01 67 E2 80 00 83 00 0A 01 62", End::Unbound { place: 16 }),
+            ("a sound node, padded", "12 01 67 8A 00 87 00 12 81 00 61 22 01 58", End::Reached),
         ] {
             let model = in_graph(graph);
             assert_eq!(check(&model, &L, 9).number(), 9, "{name}");
-            let end = end.map_or(End::Reached, |place| End::Stopped { place });
             assert_eq!(run(&model, &[]).end, end, "{name}");
         }
     }
@@ -170,7 +185,7 @@ mod tests {
         let body = "12 01 67 5A 03 0A 01 69 0A 0B 0A 01 69 0A 01 61 12 00 22 01 58 62 03 0A 01 69";
         let model =
             in_graph(&format!("12 01 67 {node_a} 0A 2A 12 01 62 22 01 58 2A 22 0A 01 6B A0 01 05 32 1A {body}"));
-        assert_eq!(check(&model, &L, 3), accepted(3, 2));
+        assert_eq!(check(&model, &L, 4), accepted(3, 2));
         let once = run(&model, &[]);
         let reads: Vec<(u64, u64)> = once.reads.iter().map(|read| (read.field, read.defined)).collect();
         assert_eq!((once.end, reads), (End::Reached, vec![(47, 42), (50, 13), (60, 42)]));

@@ -36,9 +36,14 @@ pub struct Plan<'m> {
 #[derive(Clone, Copy, Debug, PartialEq, Eq)]
 pub enum End {
     Reached,
-    /// At the tag of the field that holds the name read unbound or bound twice.
-    Stopped {
+    /// A name is read that is not bound; the place is the tag of the field that holds it.
+    Unbound {
         place: u64,
+    },
+    /// A name is bound that is bound already, with the defining place that it has.
+    BoundAgain {
+        place: u64,
+        defined: u64,
     },
 }
 
@@ -74,8 +79,8 @@ impl<'m> Plan<'m> {
     pub fn run(&self, choices: &[u64]) -> Run {
         let mut runner = Runner { choices: choices.iter(), bound: HashMap::new(), order: Vec::new(), run: Run::new() };
         if let Some(main) = &self.main {
-            if let Err(place) = runner.graph(main, true) {
-                runner.run.end = End::Stopped { place };
+            if let Err(end) = runner.graph(main, true) {
+                runner.run.end = end;
             }
         }
         runner.run
@@ -155,8 +160,8 @@ struct Runner<'p, 'm> {
     run: Run,
 }
 
-/// Err is the place at which the run stops.
-type Step = Result<(), u64>;
+/// Err is the end of a run that stops.
+type Step = Result<(), End>;
 
 impl<'m> Runner<'_, 'm> {
     fn graph(&mut self, graph: &Graph<'m>, main: bool) -> Step {
@@ -203,8 +208,8 @@ impl<'m> Runner<'_, 'm> {
     }
 
     fn bind(&mut self, name: Name<'m>) -> Step {
-        if self.bound.contains_key(name.bytes) {
-            return Err(name.place);
+        if let Some(&defined) = self.bound.get(name.bytes) {
+            return Err(End::BoundAgain { place: name.place, defined });
         }
         self.bound.insert(name.bytes, name.place);
         self.order.push(name.bytes);
@@ -214,7 +219,7 @@ impl<'m> Runner<'_, 'm> {
 
     fn read(&mut self, name: Name<'m>) -> Step {
         let Some(&defined) = self.bound.get(name.bytes) else {
-            return Err(name.place);
+            return Err(End::Unbound { place: name.place });
         };
         self.run.reads.push(Read { field: name.place, defined });
         Ok(())

@@ -145,7 +145,7 @@ fn walk(model: &[u8], message: Message, start: usize, end: usize, depth: u32) ->
     let mut seen = 0u32;
     let mut at = start;
     while at < end {
-        let refuse = |number| Refusal { number, place: at as u64 };
+        let refuse = |number| Refusal { number, place: at as u64, first: 0 };
         let tag = wire::tag(model, at, end, Padding::Refused).map_err(refuse)?;
         let row = row(message, tag.number);
         if let Some(row) = row {

@@ -144,8 +144,8 @@ fn says_the_same(one: Verdict, other: Verdict) -> bool {
 /// earlier field, or 4 or 5 of this field, which come before its number or length.
 fn answer_padded(row: &Row, tree: &Tree, padded: &Tree, nth: usize, tag: bool) -> Verdict {
     let now = places(padded, 0);
-    let nine = Refused { number: PADDED, place: now[nth] as u64 };
-    let Refused { number: number @ (1..=6 | 8 | 9), place } = row.answer else {
+    let nine = Verdict::refused(PADDED, now[nth] as u64);
+    let Refused { number: number @ (1..=6 | 8 | 9), place, .. } = row.answer else {
         return nine;
     };
     if number == 8 {
@@ -153,7 +153,7 @@ fn answer_padded(row: &Row, tree: &Tree, padded: &Tree, nth: usize, tag: bool) -
     }
     let own = places(tree, 0).into_iter().position(|at| at as u64 == place).expect("a field is at fault");
     if own < nth || own == nth && !tag && matches!(number, 4 | 5) {
-        Refused { number, place: now[own] as u64 }
+        Verdict::refused(number, now[own] as u64)
     } else {
         nine
     }

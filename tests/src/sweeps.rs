@@ -1,25 +1,17 @@
 //! Aimed models, with every small number of extra cells: then a list finds no room in the middle, at each of its names.
 
 use crate::aimed::SEED;
-use crate::checker::check;
+use crate::checker::{check, unbounded};
 use crate::compare::{failure, Outcome, Tally};
 use crate::lending::Lending;
 use crate::models::Case;
 use crate::rng::Rng;
 use crate::rows::Row;
 
-/// None, around the fewest with which the row has its answer, and as many as it says. More cells never bring 40 back.
+/// None, around the fewest with which the row has its answer, and as many as it says.
 fn cell_counts(row: &Row) -> Vec<usize> {
-    let (mut low, mut high) = (0, row.cells);
-    while low < high {
-        let middle = (low + high) / 2;
-        if check(&row.model, &row.list, middle) == row.answer {
-            high = middle;
-        } else {
-            low = middle + 1;
-        }
-    }
-    let mut counts = vec![0, low.saturating_sub(1), low, low + 1, row.cells];
+    let (_, need) = unbounded(&row.model, &row.list);
+    let mut counts = vec![0, need.saturating_sub(1), need, need + 1, row.cells];
     counts.sort_unstable();
     counts.dedup();
     counts

@@ -3,7 +3,7 @@
 use std::hint::black_box;
 use std::time::Duration;
 
-use gate_tests::checker::{check, Verdict};
+use gate_tests::checker::{check, Verdict, CELLS_PER_NAME};
 use gate_tests::gate::{raw_check, raw_check_indexed};
 
 use crate::clock::timed;
@@ -13,6 +13,7 @@ pub struct Given {
     pub model: Vec<u8>,
     pub list: Vec<u8>,
     pub nodes: u64,
+    pub names: usize,
     /// As many as the model needs, and as many extra ones as the index can use for it.
     pub cells: usize,
     pub extra: usize,
@@ -25,9 +26,11 @@ impl Given {
         let Verdict::Accepted { nodes, names } = check(&model, &list, usize::MAX) else {
             panic!("a workload is refused: {:?}", check(&model, &list, usize::MAX));
         };
-        let cells = names as usize;
-        let extra = 4 * cells + 2 + 4 * open_at_once(&model);
-        Given { model, list, nodes, cells, extra, seed }
+        let names = names as usize;
+        let cells = CELLS_PER_NAME * names;
+        // With fewer than four for each cell it is 65. The visible names use four for each name and one, the lists the others.
+        let extra = (4 * cells).max(4 * names + 2 + 4 * open_at_once(&model));
+        Given { model, list, nodes, names, cells, extra, seed }
     }
 
     /// Cells are lent as the call before left them: it makes no difference, since each call clears them itself.
@@ -36,7 +39,7 @@ impl Given {
         move || {
             let call = || raw_check_indexed(black_box(&self.model), &self.list, &mut cells, &mut extra, self.seed);
             let (taken, answer) = timed(call);
-            assert_eq!((answer.refusal, answer.nodes, answer.names), (0, self.nodes, self.cells as u64));
+            assert_eq!((answer.refusal, answer.nodes, answer.names), (0, self.nodes, self.names as u64));
             taken
         }
     }
@@ -45,7 +48,7 @@ impl Given {
         let mut cells = vec![0; self.cells];
         move || {
             let (taken, answer) = timed(|| raw_check(black_box(&self.model), &self.list, &mut cells));
-            assert_eq!((answer.refusal, answer.nodes, answer.names), (0, self.nodes, self.cells as u64));
+            assert_eq!((answer.refusal, answer.nodes, answer.names), (0, self.nodes, self.names as u64));
             taken
         }
     }

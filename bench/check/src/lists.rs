@@ -1,4 +1,4 @@
-//! How many names of lists a model has open at once: so many records of four cells the index can use beside the visible names.
+//! How many names of lists a model has open at once: so many records of four extra cells the index can use beside the visible names.
 
 use gate_tests::parts::{all, first};
 use gate_tests::wire::{fields, Field, BYTES};

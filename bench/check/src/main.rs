@@ -3,8 +3,11 @@
 //! `check_bench FOLDER LIBRARY COMMAND full|quick [WORD]` prints the tables and writes FOLDER/sweep.csv; with a word it
 //! prints those of the workloads whose names contain it, and no more;
 //! `check_bench crafted` prints what names made for a seed cost;
+//! `check_bench before full|quick [WORD]` prints times beside those of another clone's library;
 //! `check_bench memory SIDE MODEL LIST CELLS EXTRA LIBRARY` is what it starts to measure the memory of one side.
 
+#[cfg(feature = "before")]
+mod before;
 mod clock;
 mod command;
 mod crafted;
@@ -48,6 +51,8 @@ fn main() -> ExitCode {
             println!("{}", crafted::rows(random()));
             Ok(())
         }
+        ["before", length] => before(length, ""),
+        ["before", length, word] => before(length, word),
         [folder, library, command, "full"] => all([folder, library, command], FULL, ""),
         [folder, library, command, "quick"] => all([folder, library, command], QUICK, ""),
         [folder, library, command, "full", word] => all([folder, library, command], FULL, word),
@@ -66,6 +71,20 @@ fn main() -> ExitCode {
 /// A seed from the system: whoever made a model beforehand cannot have known it.
 fn random() -> u64 {
     RandomState::new().build_hasher().finish()
+}
+
+#[cfg(feature = "before")]
+fn before(length: &str, word: &str) -> Result<(), String> {
+    let plan = if length == "quick" { QUICK } else { FULL };
+    let run = Run { folder: Path::new(""), onnx: None, library: "", command: None, plan, seed: random() };
+    println!("Seed of the index, drawn for this run: {:#018x}.\n", run.seed);
+    println!("Time, best run:\n\n{}", before::rows(&run, &report::chosen(word)?));
+    Ok(())
+}
+
+#[cfg(not(feature = "before"))]
+fn before(_: &str, _: &str) -> Result<(), String> {
+    Err("built without the feature `before`: bench/run --before CLONE".to_string())
 }
 
 fn all([folder, library, command]: [&str; 3], plan: Plan, word: &str) -> Result<(), String> {

@@ -5,7 +5,7 @@ use std::hint::black_box;
 use std::path::Path;
 use std::process::Command;
 
-use gate_tests::checker::check;
+use gate_tests::checker::{check, CELLS_PER_NAME};
 use gate_tests::gate::{raw_check, raw_check_indexed};
 
 use crate::onnx::Onnx;
@@ -44,7 +44,7 @@ pub fn report(side: &str, model: &str, lent: &Lent, library: &str) -> Result<u64
     let room = (number(lent.cells)?, number(lent.extra)?);
     let onnx = if matches!(side, "parse" | "checker") { Some(Onnx::load(library)?) } else { None };
     // Once on a tiny model first: what is set up once for all models (tables of operators) is not the model's.
-    work(side, &TINY, &list, (1, 4), onnx.as_ref())?;
+    work(side, &TINY, &list, (CELLS_PER_NAME, 4 * CELLS_PER_NAME), onnx.as_ref())?;
     // 5 sets the peak back to what is resident now. The peak of getrusage cannot be: it even outlives an exec.
     fs::write("/proc/self/clear_refs", "5").map_err(|error| format!("clear_refs: {error}"))?;
     let before = status("VmRSS:")?;

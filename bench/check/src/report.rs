@@ -64,11 +64,7 @@ pub fn workloads(run: &Run, word: &str) -> Result<String, String> {
     let (mut times, mut growths, mut memory) =
         (vec![head(&TIME_HEAD)], vec![head(&GROWTH_HEAD)], vec![head(&MEMORY_HEAD)]);
     let mut told = String::new();
-    let chosen: Vec<&Workload> = WORKLOADS.iter().filter(|workload| workload.name.contains(word)).collect();
-    if chosen.is_empty() {
-        return Err(format!("no workload's name contains {word:?}"));
-    }
-    for workload in chosen {
+    for workload in chosen(word)? {
         eprintln!("{}", workload.name);
         let quarter = workload.size.is_some().then(|| run.given(workload, 4));
         let smaller = quarter.as_ref().map(|quarter| (quarter.plain()(), 16));
@@ -90,6 +86,14 @@ pub fn workloads(run: &Run, word: &str) -> Result<String, String> {
     let growing = "The indexed check at a quarter of each workload (n), at half and at the whole:";
     let peak = "Peak memory beside the model's own bytes, in MB:";
     Ok(format!("Time, best run (median):\n\n{times}\n{told}\n{growing}\n\n{growths}\n{peak}\n\n{memory}"))
+}
+
+pub fn chosen(word: &str) -> Result<Vec<&'static Workload>, String> {
+    let chosen: Vec<&Workload> = WORKLOADS.iter().filter(|workload| workload.name.contains(word)).collect();
+    if chosen.is_empty() {
+        return Err(format!("no workload's name contains {word:?}"));
+    }
+    Ok(chosen)
 }
 
 /// For what is beside the table.

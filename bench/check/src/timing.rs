@@ -17,7 +17,7 @@ pub struct Plan {
 /// Shorter calls are repeated until one timing takes this long.
 const ONE_TIMING: Duration = Duration::from_millis(2);
 /// Longer calls are made once.
-const ONCE: Duration = Duration::from_secs(1);
+pub const ONCE: Duration = Duration::from_secs(1);
 /// The plain check is not run where it would take longer, by the square of what it took at a smaller size.
 pub const CAP: Duration = Duration::from_secs(10);
 

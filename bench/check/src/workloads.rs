@@ -58,7 +58,7 @@ pub const WORKLOADS: [Workload; 18] = [
     of("hostile: 4,000,000 unknown fields", 4_000_000, |size, _| unknown(size)),
     of("hostile: 10,000 nodes, 10,000 unknown fields among imports", 10_000, searches::imports).custom(),
     of("hostile: one name of 10 MB", 10_000_000, |size, _| long_name(size)),
-    of("hostile: 20,000 named nodes, one cell", CHAIN, |size, _| idle(size)),
+    of("hostile: 20,000 named nodes, one visible name", CHAIN, |size, _| idle(size)),
     of("hostile: 20,000 names in one bucket, seed known", CHAIN, searches::crafted),
     Workload { other_seed: true, ..of("hostile: the same 20,000 names, another seed", CHAIN, searches::crafted) },
 ];

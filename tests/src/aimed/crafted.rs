@@ -1,8 +1,9 @@
 //! Names that share a bucket, for whoever knows the seed: as names of each kind, in small and in large models.
 
 use super::parts::*;
-use super::{accepted, refused};
+use super::{accepted, defined, refused, twice};
 use crate::buckets::{colliding, sharing, visible_buckets};
+use crate::checker::CELLS_PER_NAME;
 use crate::models::proto::Tree;
 use crate::rows::Row;
 
@@ -20,10 +21,11 @@ pub fn few() -> Vec<Row> {
 /// A thousand visible names in one bucket, and fewer in the lists, where those who read names again take longer.
 pub fn crafted() -> Vec<Row> {
     let same = colliding(SEED, MANY);
-    let near = sharing(SEED, visible_buckets(MANY, 4 * MANY + 2), MANY);
+    let cells = CELLS_PER_NAME * MANY;
+    let near = sharing(SEED, visible_buckets(cells, 4 * cells), MANY);
     let mut rows = [visible(&same), bodies(&same), lists(&same[..300]), visible(&near)].concat();
     for row in &mut rows {
-        row.cells = row.cells.max(MANY);
+        row.cells = row.cells.max(cells);
     }
     rows
 }
@@ -43,8 +45,8 @@ fn visible(names: &[String]) -> Vec<Row> {
         refused("read, not bound, in the bucket of all", model(graph(unseen)), 30, (READ, last, 0)),
     ];
     for at in [0, names.len() / 2, names.len() - 1] {
-        let twice = chain(names).into_iter().chain([bind(&names[at])]);
-        rows.push(refused("one of a bucket again", model(graph(twice)), 23, (BOUND, &names[at], 1)));
+        let again = chain(names).into_iter().chain([bind(&names[at])]);
+        rows.push(twice("one of a bucket again", model(graph(again)), (BOUND, &names[at], 1), 0));
     }
     rows
 }
@@ -77,6 +79,11 @@ fn lists(names: &[String]) -> Vec<Row> {
         accepted("defaults in one bucket", model(defaults()), 0, names.len()),
         refused("a node again", model(graph(nodes().chain([named(again)]))), 29, (NODE_NAME, again, 1)),
         refused("an attribute again", model(graph([holds(attributes(), again)])), 31, (ATTRIBUTE_NAME, again, 1)),
-        refused("a default again", model(defaults().tree(5, tensor(again))), 23, (TENSOR_NAME, again, 1)),
+        defined(
+            "a default again",
+            model(defaults().tree(5, tensor(again))),
+            (TENSOR_NAME, again, 1),
+            (LISTED, again, 0),
+        ),
     ]
 }

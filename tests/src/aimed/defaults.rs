@@ -1,12 +1,30 @@
 //! Initializers of the main graph: names of their own, or defaults of inputs, each once.
 
+use super::imports::{self, import};
 use super::parts::*;
-use super::{accepted, refused, AGAIN, MANY};
+use super::{accepted, defined, twice, AGAIN, MANY};
+use crate::checker::Verdict;
 use crate::models::proto::Tree;
 use crate::rows::Row;
+use crate::schema::Message;
 
 pub fn rows() -> Vec<Row> {
-    [few(), few_twice(), nested(), many(), many_between()].concat()
+    let crowded = [many(), many_between()].concat().into_iter().map(behind_imports).collect();
+    [few(), few_twice(), nested(), many(), many_between(), crowded].concat()
+}
+
+/// Behind many imports, which are remembered first: each input takes two cells, and with these come extra cells enough for its default.
+fn behind_imports(row: Row) -> Row {
+    let domains = names('d', MANY);
+    let imports = domains.iter().fold(Tree::new(Message::Model), |model, domain| model.tree(8, import(domain, 13)));
+    let imports = imports.encode();
+    let moved = |place: u64| place + imports.len() as u64;
+    let answer = match row.answer {
+        Verdict::Refused { place, first, .. } => Verdict::twice(moved(place), moved(first)),
+        accepted => accepted,
+    };
+    let name = format!("{}, behind many imports", row.name);
+    Row { name, model: [&imports[..], &row.model].concat(), list: imports::list(), answer, ..row }
 }
 
 /// A graph with these inputs and initializers, in this order on the wire.
@@ -34,15 +52,15 @@ fn few() -> Vec<Row> {
 }
 
 fn few_twice() -> Vec<Row> {
-    let twice = |name: &str, model: Vec<u8>, nth: usize| refused(name, model, 23, (TENSOR_NAME, "x", nth));
+    let again = |name: &str, model: Vec<u8>| defined(name, model, (TENSOR_NAME, "x", 1), (LISTED, "x", 0));
     let bound = graph([bind("x")]).tree(11, value("x")).tree(5, tensor("x"));
     vec![
-        twice("two defaults", of(&["x"], &["x", "x"]), 1),
-        twice("two defaults with others between", of(&["x", "y"], &["v", "x", "y", "x"]), 1),
-        twice("three defaults", of(&["y", "x"], &["x", "y", "x", "x"]), 1),
-        twice("two initializers", of(&["y"], &["x", "y", "x"]), 1),
-        refused("two inputs", of(&["x", "y", "x"], &["x"]), 23, (LISTED, "x", 1)),
-        refused("a default's name bound", model(bound), 23, (BOUND, "x", 0)),
+        again("two defaults", of(&["x"], &["x", "x"])),
+        again("two defaults with others between", of(&["x", "y"], &["v", "x", "y", "x"])),
+        again("three defaults", of(&["y", "x"], &["x", "y", "x", "x"])),
+        twice("two initializers", of(&["y"], &["x", "y", "x"]), (TENSOR_NAME, "x", 1), 0),
+        twice("two inputs", of(&["x", "y", "x"], &["x"]), (LISTED, "x", 1), 0),
+        defined("a default's name bound", model(bound), (BOUND, "x", 0), (LISTED, "x", 0)),
     ]
 }
 
@@ -51,8 +69,13 @@ fn nested() -> Vec<Row> {
     let within = |graph_: Tree| model(graph([holder([graph_])]).tree(11, value("x")).tree(5, tensor("x")));
     let own = graph([]).tree(11, value("y")).tree(5, tensor("y"));
     vec![
-        refused("of the main graph's input", within(graph([]).tree(5, tensor("x"))), 23, (TENSOR_NAME, "x", 0)),
-        refused("of its own input", within(own), 23, (TENSOR_NAME, "y", 0)),
+        defined(
+            "of the main graph's input",
+            within(graph([]).tree(5, tensor("x"))),
+            (TENSOR_NAME, "x", 0),
+            (LISTED, "x", 0),
+        ),
+        defined("of its own input", within(own), (TENSOR_NAME, "y", 0), (LISTED, "y", 0)),
     ]
 }
 
@@ -67,8 +90,8 @@ fn many() -> Vec<Row> {
     for at in AGAIN {
         for order in [&inputs, &backwards] {
             let again = [&order[..], &inputs[at..=at]].concat();
-            let field = (TENSOR_NAME, inputs[at].as_str(), 1);
-            rows.push(refused("one of many again", model(main_graph(&inputs, &again)), 23, field));
+            let (field, first) = ((TENSOR_NAME, inputs[at].as_str(), 1), (LISTED, inputs[at].as_str(), 0));
+            rows.push(defined("one of many again", model(main_graph(&inputs, &again)), field, first));
         }
     }
     rows
@@ -80,10 +103,10 @@ fn many_between() -> Vec<Row> {
     let mixed: Vec<String> = inputs.iter().zip(&own).flat_map(|(x, w)| [w.clone(), x.clone()]).collect();
     let mut rows = vec![accepted("by turns", model(main_graph(&inputs, &mixed)), 0, 2 * MANY)];
     for at in AGAIN {
-        for name in [&inputs[at], &own[at]] {
+        for (name, tag) in [(&inputs[at], LISTED), (&own[at], TENSOR_NAME)] {
             let again = [&mixed[..], std::slice::from_ref(name)].concat();
-            let field = (TENSOR_NAME, name.as_str(), 1);
-            rows.push(refused("by turns, one again", model(main_graph(&inputs, &again)), 23, field));
+            let (field, first) = ((TENSOR_NAME, name.as_str(), 1), (tag, name.as_str(), 0));
+            rows.push(defined("by turns, one again", model(main_graph(&inputs, &again)), field, first));
         }
     }
     rows

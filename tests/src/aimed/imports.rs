@@ -14,13 +14,13 @@ pub fn rows() -> Vec<Row> {
 }
 
 /// The default domain and many others, all from 7 to 21.
-fn list() -> Vec<u8> {
+pub fn list() -> Vec<u8> {
     let domains = std::iter::once(String::new()).chain(names('d', MANY));
     let entries = domains.map(|domain| Entry { domain: domain.into_bytes(), lowest: 7, highest: 21 });
     lists::encode(&entries.collect::<Vec<_>>())
 }
 
-fn import(domain: &str, version: u64) -> Tree {
+pub fn import(domain: &str, version: u64) -> Tree {
     Tree::new(Message::OperatorSetId).text(1, domain).number(2, version)
 }
 
@@ -40,7 +40,7 @@ fn at_last(name: &str, number: u64, mut model: Tree) -> Row {
     let whole = model.encode();
     model.items.pop();
     let place = model.encode().len() as u64;
-    Row { name: name.into(), model: whole, list: list(), cells: 1, answer: Verdict::Refused { number, place } }
+    Row { name: name.into(), model: whole, list: list(), cells: 1, answer: Verdict::refused(number, place) }
 }
 
 fn few() -> Vec<Row> {

@@ -1,7 +1,7 @@
 //! Names and domains that differ in one byte, at each place: a comparison has to look at every byte, however many it takes at once.
 
 use super::parts::*;
-use super::{accepted, refused};
+use super::{accepted, refused, twice};
 use crate::checker::Verdict;
 use crate::models::lists::{self, Entry};
 use crate::models::proto::Tree;
@@ -30,12 +30,8 @@ fn of_names(one: &str, other: &str) -> Vec<Row> {
     vec![
         accepted("two values", model(graph([bind(one), bind(other), read(one), read(other)])), 4, 2),
         refused("the other is read", model(graph([bind(one), read(other)])), 30, (READ, other, 0)),
-        refused(
-            "bound twice, around the other",
-            model(graph([bind(one), bind(other), bind(one)])),
-            23,
-            (BOUND, one, 1),
-        ),
+        twice("bound twice, around the other", model(graph([bind(one), bind(other), bind(one)])), (BOUND, one, 1), 0),
+        twice("the other twice", model(graph([bind(one), bind(other), bind(other)])), (BOUND, other, 1), 0),
         accepted("two nodes", model(graph([named(one), named(other)])), 2, 0),
         refused("a node twice", model(graph([named(one), named(other), named(one)])), 29, (NODE_NAME, one, 1)),
         accepted("two attributes", model(graph([attributes(&[one, other])])), 1, 0),
@@ -55,11 +51,11 @@ fn of_domains(one: &str, other: &str) -> Vec<Row> {
         answer(name, imports, &[other, one], &all, Verdict::Accepted { nodes: 2, names: 0 })
     };
     let refused = |name: &str, imports: &[&str], listed: &[&str], number: u64, place: usize| {
-        answer(name, imports, &[], listed, Verdict::Refused { number, place: place as u64 })
+        answer(name, imports, &[], listed, Verdict::refused(number, place as u64))
     };
     let missing = |name: &str, imports: &[&str], used: &str| {
         let place = super::place_of(&importing(imports, &[used]), (DOMAIN, used, 0));
-        answer(name, imports, &[used], &all, Verdict::Refused { number: 28, place })
+        answer(name, imports, &[used], &all, Verdict::refused(28, place))
     };
     // ir_version takes two bytes, an import six and its domain
     let second = 2 + 6 + FIRST.len();

@@ -1,7 +1,7 @@
 //! Visible names: those of an ended body, which may be bound again and not be read, and those around it, which stay.
 
 use super::parts::*;
-use super::{accepted, refused, AGAIN, MANY};
+use super::{accepted, refused, twice, AGAIN, MANY};
 use crate::models::proto::Tree;
 use crate::rows::Row;
 
@@ -27,15 +27,18 @@ fn bound_again() -> Vec<Row> {
 
 fn bound_twice() -> Vec<Row> {
     let ended = || holder([graph([bind("x")])]);
-    let twice = |name: &str, nodes: Vec<Tree>, nth: usize| refused(name, model(graph(nodes)), 23, (BOUND, "x", nth));
+    let of = |name: &str, nodes: Vec<Tree>, nth: usize, first: usize| {
+        twice(name, model(graph(nodes)), (BOUND, "x", nth), first)
+    };
     let second = holder([graph([bind("y")]), graph([bind("x")])]);
     vec![
-        twice("twice after a body", vec![ended(), bind("x"), bind("x")], 2),
-        twice("before a body and in it", vec![bind("x"), ended()], 1),
-        twice("before a body and in the second", vec![bind("x"), second], 1),
-        twice("between two bodies", vec![ended(), bind("x"), ended()], 2),
-        twice("in one body", vec![holder([graph([bind("y"), bind("x"), bind("x")])])], 1),
-        twice("in a body's body", vec![holder([graph([bind("x"), ended()])])], 1),
+        of("twice after a body", vec![ended(), bind("x"), bind("x")], 2, 1),
+        of("before a body and in it", vec![bind("x"), ended()], 1, 0),
+        of("before a body and in the second", vec![bind("x"), second], 1, 0),
+        of("between two bodies", vec![ended(), bind("x"), ended()], 2, 1),
+        of("in one body", vec![holder([graph([bind("y"), bind("x"), bind("x")])])], 1, 0),
+        of("in a body's body", vec![holder([graph([bind("x"), ended()])])], 1, 0),
+        of("in the body after two that bind it", vec![ended(), ended(), holder([graph([bind("x"), bind("x")])])], 3, 2),
     ]
 }
 
@@ -95,8 +98,8 @@ fn refilled() -> Vec<Row> {
         rows.push(refused("a body's name, its place taken", model(graph(nodes)), 30, (READ, stale, 0)));
         let nodes = [ended(), read(stale)];
         rows.push(refused("a body's name, its place free", model(graph(nodes)), 30, (READ, stale, 0)));
-        let twice = [ended()].into_iter().chain(binds(&inner)).chain([bind(stale)]);
-        rows.push(refused("a body's names and one twice", model(graph(twice)), 23, (BOUND, stale, 2)));
+        let again = [ended()].into_iter().chain(binds(&inner)).chain([bind(stale)]);
+        rows.push(twice("a body's names and one twice", model(graph(again)), (BOUND, stale, 2), 1));
     }
     rows
 }
@@ -109,8 +112,8 @@ fn earlier_place() -> Vec<Row> {
     for name in AGAIN.map(|at| inner[at].as_str()) {
         let again = [ended(), bind(name), read(name), holder([graph([bind("v"), read(name)])])];
         rows.push(accepted("a body's name in an earlier place", model(graph(again)), MANY + 6, MANY));
-        let twice = [ended(), bind(name), bind(name)];
-        rows.push(refused("in an earlier place, twice", model(graph(twice)), 23, (BOUND, name, 2)));
+        let again = [ended(), bind(name), bind(name)];
+        rows.push(twice("in an earlier place, twice", model(graph(again)), (BOUND, name, 2), 1));
     }
     rows
 }

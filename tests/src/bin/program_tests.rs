@@ -9,7 +9,7 @@ use gate_tests::checker::{check, Verdict};
 use gate_tests::models::{self, lists};
 use gate_tests::rows;
 
-/// "It has a model buffer of 32,768 bytes, a list buffer of 4,096 bytes and 4,096 cells."
+/// "It has a model buffer of 32,768 bytes, a list buffer of 4,096 bytes and 4,096 cells." So it holds 2,048 names.
 const MODEL: usize = 32_768;
 const LIST: usize = 4_096;
 const CELLS: usize = 4_096;
@@ -76,9 +76,9 @@ fn expected(files: &Files) -> String {
     let model = files.model.as_deref().unwrap_or_default();
     let list = files.list.as_deref().unwrap_or_default();
     let verdict = if model.len() > MODEL {
-        Verdict::Refused { number: 7, place: 0 }
+        Verdict::refused(7, 0)
     } else if list.len() > LIST {
-        Verdict::Refused { number: 8, place: 0 }
+        Verdict::refused(8, 0)
     } else {
         check(model, list, CELLS)
     };
@@ -88,7 +88,7 @@ fn expected(files: &Files) -> String {
 fn cases() -> Vec<Files> {
     let mut cases = absences();
     cases.extend(sizes());
-    for row in rows::document().into_iter().chain(rows::by_hand()) {
+    for row in rows::document().into_iter().chain(rows::by_hand()).chain(rows::wide()) {
         cases.push(Files { label: row.name, model: Some(row.model), list: Some(row.list) });
     }
     for number in 0..CASES {

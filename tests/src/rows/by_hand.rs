@@ -1,6 +1,7 @@
 //! Rows worked out by hand from document 01 and the readings of its open points.
 
-use super::{accepted, domains, hex, lengths, padded, refused, row, versions, Row, M0};
+use super::{accepted, domains, hex, lengths, padded, refused, row, twice, versions, Row, M0};
+use crate::checker::Verdict;
 use crate::models::lists::L;
 
 /// A graph behind M0's header, so that its first byte stands at 8. It is under 128 bytes long.
@@ -15,12 +16,12 @@ pub(super) fn in_graph(graph: &str) -> Vec<u8> {
 /// Rows for the places and the order of rules, worked out by hand; each graph begins at 8.
 pub fn by_hand() -> Vec<Row> {
     let mut rows = Vec::new();
-    for (name, graph, cells, answer) in GRAPHS.iter().chain(padded::GRAPHS).chain(padded::PASSING) {
-        let answer = match *answer {
+    for (name, graph, cells, answer) in [GRAPHS, twice::GRAPHS, padded::GRAPHS, padded::PASSING].concat() {
+        let answer = match answer {
             (0, nodes, names) => accepted(nodes, names),
-            (number, place, _) => refused(number, place),
+            (number, place, first) => Verdict::Refused { number, place, first },
         };
-        rows.push(row(name, in_graph(graph), &L, *cells, answer));
+        rows.push(row(name, in_graph(graph), &L, cells, answer));
     }
     for (name, model, number, place) in MODELS.iter().chain(padded::MODELS) {
         rows.push(row(name, hex(model), &L, 9, refused(*number, *place)));
@@ -32,7 +33,7 @@ pub fn by_hand() -> Vec<Row> {
     rows
 }
 
-/// A graph by name, bytes, cells and answer: (0, nodes, names) or (number, place, 0).
+/// A graph by name, bytes, cells and answer: (0, nodes, names), (23, place, first) or (number, place, 0).
 pub(super) type GraphRow = (&'static str, &'static str, usize, (u64, u64, u64));
 
 #[rustfmt::skip]
@@ -44,34 +45,34 @@ const GRAPHS: &[GraphRow] = &[
     ("21 of an input", "12 01 67 5A 03 0A 01 39", 9, (21, 13, 0)),
     ("22, absent", "12 01 67 5A 00", 9, (22, 11, 0)),
     ("22, present and empty", "12 01 67 5A 02 0A 00", 9, (22, 13, 0)),
-    ("24, no type", "12 01 67 5A 03 0A 01 61", 1, (24, 11, 0)),
-    ("40 before 24", "12 01 67 5A 03 0A 01 61", 0, (40, 13, 0)),
-    ("24, no tensor", "12 01 67 5A 05 0A 01 61 12 00", 1, (24, 16, 0)),
-    ("5, two members of a type", "12 01 67 5A 09 0A 01 61 12 04 0A 00 22 00", 1, (5, 20, 0)),
-    ("25, absent", "12 01 67 5A 07 0A 01 61 12 02 0A 00", 1, (25, 18, 0)),
-    ("25, zero", "12 01 67 5A 09 0A 01 61 12 04 0A 02 08 00", 1, (25, 20, 0)),
-    ("37", "12 01 67 5A 09 0A 01 61 12 04 0A 02 08 01", 1, (37, 18, 0)),
-    ("38", "12 01 67 5A 18 0A 01 61 12 13 0A 11 08 01 12 0D 0A 0B 08 FF FF FF FF FF FF FF FF FF 01", 1, (38, 26, 0)),
-    ("21, an empty dim_param", "12 01 67 5A 0F 0A 01 61 12 0A 0A 08 08 01 12 04 0A 02 12 00", 1, (21, 26, 0)),
-    ("a dim with neither", "12 01 67 5A 0D 0A 01 61 12 08 0A 06 08 01 12 02 0A 00", 1, (0, 0, 1)),
-    ("26, absent", "12 01 67 2A 03 42 01 77", 1, (26, 11, 0)),
-    ("40 before 26", "12 01 67 2A 03 42 01 77", 0, (40, 13, 0)),
-    ("26, zero", "12 01 67 2A 05 42 01 77 10 00", 1, (26, 16, 0)),
-    ("a default, cells full", "12 01 67 5A 0B 0A 01 61 12 06 0A 04 08 01 12 00 2A 05 42 01 61 10 01", 1, (0, 0, 1)),
-    ("a default before its input on the wire", "2A 05 42 01 61 10 01 12 01 67 5A 0B 0A 01 61 12 06 0A 04 08 01 12 00", 1, (0, 0, 1)),
-    ("a second default", "12 01 67 5A 0B 0A 01 61 12 06 0A 04 08 01 12 00 2A 05 42 01 61 10 01 2A 05 42 01 61 10 01", 1, (23, 33, 0)),
-    ("a default with 26", "12 01 67 5A 0B 0A 01 61 12 06 0A 04 08 01 12 00 2A 03 42 01 61", 1, (26, 24, 0)),
-    ("27, absent", "12 01 67 0A 03 12 01 61", 1, (27, 11, 0)),
-    ("27, present and empty", "12 01 67 0A 05 12 01 61 22 00", 1, (27, 16, 0)),
-    ("28, at the domain", "12 01 67 0A 09 12 01 61 22 01 58 3A 01 78", 1, (28, 19, 0)),
-    ("ai.onnx is the default domain", "12 01 67 0A 0F 12 01 61 22 01 58 3A 07 61 69 2E 6F 6E 6E 78", 1, (0, 1, 1)),
+    ("24, no type", "12 01 67 5A 03 0A 01 61", 2, (24, 11, 0)),
+    ("40 before 24", "12 01 67 5A 03 0A 01 61", 1, (40, 13, 0)),
+    ("24, no tensor", "12 01 67 5A 05 0A 01 61 12 00", 2, (24, 16, 0)),
+    ("5, two members of a type", "12 01 67 5A 09 0A 01 61 12 04 0A 00 22 00", 2, (5, 20, 0)),
+    ("25, absent", "12 01 67 5A 07 0A 01 61 12 02 0A 00", 2, (25, 18, 0)),
+    ("25, zero", "12 01 67 5A 09 0A 01 61 12 04 0A 02 08 00", 2, (25, 20, 0)),
+    ("37", "12 01 67 5A 09 0A 01 61 12 04 0A 02 08 01", 2, (37, 18, 0)),
+    ("38", "12 01 67 5A 18 0A 01 61 12 13 0A 11 08 01 12 0D 0A 0B 08 FF FF FF FF FF FF FF FF FF 01", 2, (38, 26, 0)),
+    ("21, an empty dim_param", "12 01 67 5A 0F 0A 01 61 12 0A 0A 08 08 01 12 04 0A 02 12 00", 2, (21, 26, 0)),
+    ("a dim with neither", "12 01 67 5A 0D 0A 01 61 12 08 0A 06 08 01 12 02 0A 00", 2, (0, 0, 1)),
+    ("26, absent", "12 01 67 2A 03 42 01 77", 2, (26, 11, 0)),
+    ("40 before 26", "12 01 67 2A 03 42 01 77", 1, (40, 13, 0)),
+    ("26, zero", "12 01 67 2A 05 42 01 77 10 00", 2, (26, 16, 0)),
+    ("a default, cells full", "12 01 67 5A 0B 0A 01 61 12 06 0A 04 08 01 12 00 2A 05 42 01 61 10 01", 2, (0, 0, 1)),
+    ("a default before its input on the wire", "2A 05 42 01 61 10 01 12 01 67 5A 0B 0A 01 61 12 06 0A 04 08 01 12 00", 2, (0, 0, 1)),
+    ("a second default", "12 01 67 5A 0B 0A 01 61 12 06 0A 04 08 01 12 00 2A 05 42 01 61 10 01 2A 05 42 01 61 10 01", 2, (23, 33, 13)),
+    ("a default with 26", "12 01 67 5A 0B 0A 01 61 12 06 0A 04 08 01 12 00 2A 03 42 01 61", 2, (26, 24, 0)),
+    ("27, absent", "12 01 67 0A 03 12 01 61", 2, (27, 11, 0)),
+    ("27, present and empty", "12 01 67 0A 05 12 01 61 22 00", 2, (27, 16, 0)),
+    ("28, at the domain", "12 01 67 0A 09 12 01 61 22 01 58 3A 01 78", 2, (28, 19, 0)),
+    ("ai.onnx is the default domain", "12 01 67 0A 0F 12 01 61 22 01 58 3A 07 61 69 2E 6F 6E 6E 78", 2, (0, 1, 1)),
     ("29", "12 01 67 0A 08 1A 01 6E 12 00 22 01 58 0A 08 1A 01 6E 12 00 22 01 58", 0, (29, 23, 0)),
     ("34", "12 01 67 0A 03 22 01 58", 0, (34, 11, 0)),
     ("one empty output is enough", "12 01 67 0A 05 12 00 22 01 58", 0, (0, 1, 0)),
-    ("23 of one output before 21 of the next", "12 01 67 0A 0C 12 01 61 12 01 61 12 01 39 22 01 58", 9, (23, 16, 0)),
+    ("23 of one output before 21 of the next", "12 01 67 0A 0C 12 01 61 12 01 61 12 01 39 22 01 58", 9, (23, 16, 13)),
     ("w does not serve w1", "12 01 67 0A 06 12 01 77 22 01 58 0A 07 0A 02 77 31 22 01 58", 9, (30, 21, 0)),
     ("w1 does not serve w", "12 01 67 0A 07 12 02 77 31 22 01 58 0A 06 0A 01 77 22 01 58", 9, (30, 22, 0)),
-    ("a node before the input that it reads", "0A 09 0A 01 61 12 01 62 22 01 58 12 01 67 5A 0B 0A 01 61 12 06 0A 04 08 01 12 00", 2, (0, 1, 2)),
+    ("a node before the input that it reads", "0A 09 0A 01 61 12 01 62 22 01 58 12 01 67 5A 0B 0A 01 61 12 06 0A 04 08 01 12 00", 4, (0, 1, 2)),
     ("31", "12 01 67 0A 16 12 01 61 22 01 58 2A 06 0A 01 6B A0 01 02 2A 06 0A 01 6B A0 01 02", 9, (31, 29, 0)),
     ("22 of an attribute", "12 01 67 0A 08 12 01 61 22 01 58 2A 00", 9, (22, 19, 0)),
     ("32, no type", "12 01 67 0A 0B 12 01 61 22 01 58 2A 03 0A 01 6B", 9, (32, 19, 0)),
@@ -96,7 +97,7 @@ const GRAPHS: &[GraphRow] = &[
     // A body, its tag at 27, in the node at 11, whose output is `a`. The body's node at 32 reads or binds `a`.
     ("27 before 30", "12 01 67 0A 1A 12 01 61 22 01 58 2A 12 0A 01 6B A0 01 05 32 0A 12 01 67 0A 05 0A 01 61 22 00", 9, (27, 37, 0)),
     ("a body reads its node's output", "12 01 67 0A 1B 12 01 61 22 01 58 2A 13 0A 01 6B A0 01 05 32 0B 12 01 67 0A 06 0A 01 61 22 01 58", 9, (30, 34, 0)),
-    ("a body binds its node's output", "12 01 67 0A 1B 12 01 61 22 01 58 2A 13 0A 01 6B A0 01 05 32 0B 12 01 67 0A 06 12 01 61 22 01 58", 1, (0, 2, 1)),
+    ("a body binds its node's output", "12 01 67 0A 1B 12 01 61 22 01 58 2A 13 0A 01 6B A0 01 05 32 0B 12 01 67 0A 06 12 01 61 22 01 58", 2, (0, 2, 1)),
     ("a body lists its node's output", "12 01 67 0A 18 12 01 61 22 01 58 2A 10 0A 01 6B A0 01 05 32 08 12 01 67 62 03 0A 01 61", 9, (35, 34, 0)),
 ];
 

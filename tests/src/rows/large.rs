@@ -31,7 +31,7 @@ fn sizes() -> Vec<Plan> {
         ("the most bytes, a padded tag".into(), Sparse::new(hex("88 00")).zeros(MOST - 2), &L, 0, refused(9, 0)),
         ("a byte more, a padded tag".into(), Sparse::new(hex("88 00")).zeros(MOST - 1), &L, 0, refused(7, 0)),
         ("a byte more, zeros, no list".into(), zeros(MOST + 1), &[], 3, refused(7, 0)),
-        ("M1 and 2^32 bytes".into(), beyond, &L, 1, refused(7, 0)),
+        ("M1 and 2^32 bytes".into(), beyond, &L, 2, refused(7, 0)),
         ("the most bytes, sound".into(), filled(MOST, Sparse::default()), &L, 2, accepted(0, 1)),
         ("a byte more, sound but for it".into(), filled(MOST + 1, Sparse::default()), &L, 2, refused(7, 0)),
         ("the most bytes, nearly all a name".into(), model(all_name), &L, 0, refused(21, 12)),
@@ -55,41 +55,41 @@ pub(super) fn filled(length: usize, last: Sparse) -> Sparse {
     model(Sparse::new(hex("12 01 67")).and(initializer(b'w', contents)).and(last))
 }
 
-/// What stands last in the graph, and so in the model: name, bytes, cells, and (0, nodes, names) or the number and how many bytes before the
-/// end its place is. `w` takes a cell.
+/// What stands last in the graph, and so in the model: name, bytes, cells, and (0, nodes, names) or the number, how many bytes before the
+/// end its place is, and the first definition's place. `w` takes two cells, its name is at 21.
 #[rustfmt::skip]
 const ENDS: &[GraphRow] = &[
-    ("1, no length", "0A", 1, (1, 1, 0)),
-    ("1, a length past the end", "0A 07 12 01 61 22 01 58", 2, (1, 8, 0)),
-    ("2", "A0 06 80 80 80 80 80 80 80 80 80 02", 1, (2, 12, 0)),
-    ("3, a zero", "00", 1, (3, 1, 0)),
-    ("3, wire type 7", "0F 00", 1, (3, 2, 0)),
-    ("4", "08 00", 1, (4, 2, 0)),
-    ("5", "12 01 67", 1, (5, 3, 0)),
-    ("9, a tag", "92 00", 1, (9, 2, 0)),
-    ("9, a number", "A0 06 80 00", 1, (9, 4, 0)),
-    ("9, a length", "0A 80 00", 1, (9, 3, 0)),
-    ("9, a length of ten bytes past the end", "0A 87 80 80 80 80 80 80 80 80 00", 1, (9, 11, 0)),
-    ("16", "7A 00", 1, (16, 2, 0)),
-    ("21", "0A 06 12 01 39 22 01 58", 2, (21, 6, 0)),
-    ("23 of the initializer", "0A 06 12 01 77 22 01 58", 2, (23, 6, 0)),
-    ("23 of a node's output", "0A 06 12 01 61 22 01 58 0A 06 12 01 61 22 01 58", 3, (23, 6, 0)),
-    ("23 of the initializer, by another", "2A 05 42 01 77 10 01", 2, (23, 5, 0)),
-    ("26", "2A 05 42 01 61 10 00", 2, (26, 2, 0)),
-    ("27", "0A 03 12 01 61", 2, (27, 5, 0)),
-    ("28", "0A 09 12 01 61 22 01 58 3A 01 78", 2, (28, 3, 0)),
-    ("29", "0A 08 1A 01 6E 12 00 22 01 58 0A 08 1A 01 6E 12 00 22 01 58", 1, (29, 8, 0)),
-    ("two names of nodes", "0A 08 1A 01 6E 12 00 22 01 58 0A 08 1A 01 6D 12 00 22 01 58", 1, (0, 2, 1)),
-    ("30", "0A 09 0A 01 71 12 01 61 22 01 58", 2, (30, 9, 0)),
-    ("30 of its own output", "0A 09 0A 01 61 12 01 61 22 01 58", 2, (30, 9, 0)),
-    ("30 in a body", "0A 1B 12 01 61 22 01 58 2A 13 0A 01 6B A0 01 05 32 0B 12 01 67 0A 06 0A 01 61 22 01 58", 3, (30, 6, 0)),
-    ("31", "0A 16 12 01 61 22 01 58 2A 06 0A 01 6B A0 01 02 2A 06 0A 01 6B A0 01 02", 2, (31, 6, 0)),
-    ("34", "0A 03 22 01 58", 1, (34, 5, 0)),
-    ("35", "62 03 0A 01 62", 1, (35, 3, 0)),
-    ("40", "0A 06 12 01 61 22 01 58", 1, (40, 6, 0)),
-    ("a cell for it", "0A 06 12 01 61 22 01 58", 2, (0, 1, 2)),
-    ("reads of both", "0A 06 12 01 61 22 01 58 0A 0C 0A 01 61 0A 01 77 12 01 62 22 01 58", 3, (0, 2, 3)),
-    ("a body reads both", "0A 06 12 01 61 22 01 58 0A 20 12 01 62 22 01 58 2A 18 0A 01 6B A0 01 05 32 10 12 01 67 0A 0B 0A 01 61 0A 01 77 12 00 22 01 58", 3, (0, 3, 3)),
+    ("1, no length", "0A", 2, (1, 1, 0)),
+    ("1, a length past the end", "0A 07 12 01 61 22 01 58", 4, (1, 8, 0)),
+    ("2", "A0 06 80 80 80 80 80 80 80 80 80 02", 2, (2, 12, 0)),
+    ("3, a zero", "00", 2, (3, 1, 0)),
+    ("3, wire type 7", "0F 00", 2, (3, 2, 0)),
+    ("4", "08 00", 2, (4, 2, 0)),
+    ("5", "12 01 67", 2, (5, 3, 0)),
+    ("9, a tag", "92 00", 2, (9, 2, 0)),
+    ("9, a number", "A0 06 80 00", 2, (9, 4, 0)),
+    ("9, a length", "0A 80 00", 2, (9, 3, 0)),
+    ("9, a length of ten bytes past the end", "0A 87 80 80 80 80 80 80 80 80 00", 2, (9, 11, 0)),
+    ("16", "7A 00", 2, (16, 2, 0)),
+    ("21", "0A 06 12 01 39 22 01 58", 4, (21, 6, 0)),
+    ("23 of the initializer", "0A 06 12 01 77 22 01 58", 4, (23, 6, 21)),
+    ("23 of a node's output", "0A 06 12 01 61 22 01 58 0A 06 12 01 61 22 01 58", 6, (23, 6, MOST as u64 - 14)),
+    ("23 of the initializer, by another", "2A 05 42 01 77 10 01", 4, (23, 5, 21)),
+    ("26", "2A 05 42 01 61 10 00", 4, (26, 2, 0)),
+    ("27", "0A 03 12 01 61", 4, (27, 5, 0)),
+    ("28", "0A 09 12 01 61 22 01 58 3A 01 78", 4, (28, 3, 0)),
+    ("29", "0A 08 1A 01 6E 12 00 22 01 58 0A 08 1A 01 6E 12 00 22 01 58", 2, (29, 8, 0)),
+    ("two names of nodes", "0A 08 1A 01 6E 12 00 22 01 58 0A 08 1A 01 6D 12 00 22 01 58", 2, (0, 2, 1)),
+    ("30", "0A 09 0A 01 71 12 01 61 22 01 58", 4, (30, 9, 0)),
+    ("30 of its own output", "0A 09 0A 01 61 12 01 61 22 01 58", 4, (30, 9, 0)),
+    ("30 in a body", "0A 1B 12 01 61 22 01 58 2A 13 0A 01 6B A0 01 05 32 0B 12 01 67 0A 06 0A 01 61 22 01 58", 6, (30, 6, 0)),
+    ("31", "0A 16 12 01 61 22 01 58 2A 06 0A 01 6B A0 01 02 2A 06 0A 01 6B A0 01 02", 4, (31, 6, 0)),
+    ("34", "0A 03 22 01 58", 2, (34, 5, 0)),
+    ("35", "62 03 0A 01 62", 2, (35, 3, 0)),
+    ("40", "0A 06 12 01 61 22 01 58", 3, (40, 6, 0)),
+    ("cells for it", "0A 06 12 01 61 22 01 58", 4, (0, 1, 2)),
+    ("reads of both", "0A 06 12 01 61 22 01 58 0A 0C 0A 01 61 0A 01 77 12 01 62 22 01 58", 6, (0, 2, 3)),
+    ("a body reads both", "0A 06 12 01 61 22 01 58 0A 20 12 01 62 22 01 58 2A 18 0A 01 6B A0 01 05 32 10 12 01 67 0A 0B 0A 01 61 0A 01 77 12 00 22 01 58", 6, (0, 3, 3)),
 ];
 
 fn ends() -> impl Iterator<Item = Plan> {
@@ -102,17 +102,17 @@ fn ends() -> impl Iterator<Item = Plan> {
 fn from_the_end(answer: (u64, u64, u64)) -> Verdict {
     match answer {
         (0, nodes, names) => accepted(nodes, names),
-        (number, back, _) => refused(number, MOST as u64 - back),
+        (number, back, first) => Verdict::Refused { number, place: MOST as u64 - back, first },
     }
 }
 
 /// A node with the output `a` just above 2^30, and one that stands last, an initializer before each: `v` and `w`.
 #[rustfmt::skip]
 const APART: &[GraphRow] = &[
-    ("a read of it", "0A 09 0A 01 61 12 01 62 22 01 58", 4, (0, 2, 4)),
-    ("40", "0A 09 0A 01 61 12 01 62 22 01 58", 3, (40, 6, 0)),
-    ("23", "0A 06 12 01 61 22 01 58", 4, (23, 6, 0)),
-    ("30", "0A 09 0A 01 41 12 01 62 22 01 58", 4, (30, 9, 0)),
+    ("a read of it", "0A 09 0A 01 61 12 01 62 22 01 58", 8, (0, 2, 4)),
+    ("40", "0A 09 0A 01 61 12 01 62 22 01 58", 7, (40, 6, 0)),
+    ("23", "0A 06 12 01 61 22 01 58", 8, (23, 6, (1 << 30) + 34)),
+    ("30", "0A 09 0A 01 41 12 01 62 22 01 58", 8, (30, 9, 0)),
 ];
 
 fn apart() -> impl Iterator<Item = Plan> {

@@ -49,7 +49,7 @@ pub(super) fn near() -> impl Iterator<Item = Row> {
     lying().map(|(name, last, back)| {
         let model = model(Sparse::new(hex("12 01 67")).and(last)).build();
         let place = (model.len() - back) as u64;
-        row(&name, model, &L, 2, refused(1, place))
+        row(&name, model, &L, 4, refused(1, place))
     })
 }
 
@@ -57,6 +57,6 @@ pub(super) fn near() -> impl Iterator<Item = Row> {
 pub(super) fn far() -> impl Iterator<Item = Plan> {
     lying().map(|(name, last, back)| {
         let place = (MOST - back) as u64;
-        (format!("{name}, at its end"), filled(MOST, last), &L[..], 2, refused(1, place))
+        (format!("{name}, at its end"), filled(MOST, last), &L[..], 4, refused(1, place))
     })
 }

@@ -1,0 +1,122 @@
+//! Both checks beside those of another clone, in turn in one process: what a change did to their time. The other library is one from before
+//! Req 08: its answer has four numbers, and a name takes one cell.
+
+use std::hint::black_box;
+use std::time::Duration;
+
+use crate::clock::timed;
+use crate::given::Given;
+use crate::lists::open_at_once;
+use crate::markdown::{head, ratio, table, time};
+use crate::report::Run;
+use crate::timing::{in_turn, Plan, ONCE};
+use crate::workloads::Workload;
+
+#[repr(C)]
+struct Answer {
+    refusal: u64,
+    place: u64,
+    nodes: u64,
+    names: u64,
+}
+
+extern "C" {
+    fn before_check(
+        model_ptr: *const u8,
+        model_len: usize,
+        list_ptr: *const u8,
+        list_len: usize,
+        cells_ptr: *mut u32,
+        cells_len: usize,
+    ) -> Answer;
+    fn before_check_indexed(
+        model_ptr: *const u8,
+        model_len: usize,
+        list_ptr: *const u8,
+        list_len: usize,
+        cells_ptr: *mut u32,
+        cells_len: usize,
+        extra_ptr: *mut u32,
+        extra_len: usize,
+        seed: u64,
+    ) -> Answer;
+}
+
+const HEAD: [&str; 8] = [
+    "indexed, after ÷ before",
+    "plain, after ÷ before",
+    "workload",
+    "indexed before",
+    "indexed after",
+    "plain before",
+    "plain after",
+    "plain on",
+];
+
+pub fn rows(run: &Run, workloads: &[&Workload]) -> String {
+    let rows = workloads.iter().map(|workload| row(run, workload));
+    table(&[head(&HEAD)].into_iter().chain(rows).collect::<Vec<_>>(), &[2, 7])
+}
+
+/// Where the plain check would be too long to be called often, it is timed on a quarter.
+fn row(run: &Run, workload: &Workload) -> Vec<String> {
+    eprintln!("{}", workload.name);
+    let whole = run.given(workload, 1);
+    let quarter = workload.size.is_some().then(|| run.given(workload, 4));
+    let quarter = quarter.filter(|quarter| plain(quarter)() * 16 > ONCE);
+    let indexed = pair(indexed(&whole), whole.indexed(), run.plan);
+    let part = quarter.as_ref().unwrap_or(&whole);
+    let plain = pair(plain(part), part.plain(), run.plan);
+    let mut row = vec![ratio(indexed[1], indexed[0]), ratio(plain[1], plain[0]), workload.name.to_string()];
+    row.extend(indexed.into_iter().chain(plain).map(time));
+    row.push(if quarter.is_some() { "a quarter" } else { "the whole" }.to_string());
+    row
+}
+
+/// The best times of both.
+fn pair<'a>(before: impl FnMut() -> Duration + 'a, after: impl FnMut() -> Duration + 'a, plan: Plan) -> [Duration; 2] {
+    let calls: [Box<dyn FnMut() -> Duration + 'a>; 2] = [Box::new(before), Box::new(after)];
+    in_turn(calls, plan).map(|times| times.best())
+}
+
+fn plain(given: &Given) -> impl FnMut() -> Duration + '_ {
+    let mut cells = vec![0; given.names];
+    move || {
+        let (model, list) = (black_box(&given.model), &given.list);
+        // SAFETY: the three slices live through the call, and the library has no other way to reach memory of ours.
+        let (taken, answer) = timed(|| unsafe {
+            before_check(model.as_ptr(), model.len(), list.as_ptr(), list.len(), cells.as_mut_ptr(), cells.len())
+        });
+        accepted(&answer, given);
+        taken
+    }
+}
+
+fn indexed(given: &Given) -> impl FnMut() -> Duration + '_ {
+    let extra = 4 * given.names + 2 + 4 * open_at_once(&given.model);
+    let (mut cells, mut extra) = (vec![0; given.names], vec![0; extra]);
+    move || {
+        let (model, list) = (black_box(&given.model), &given.list);
+        // SAFETY: as above, and the two slices that are written are two.
+        let (taken, answer) = timed(|| unsafe {
+            before_check_indexed(
+                model.as_ptr(),
+                model.len(),
+                list.as_ptr(),
+                list.len(),
+                cells.as_mut_ptr(),
+                cells.len(),
+                extra.as_mut_ptr(),
+                extra.len(),
+                given.seed,
+            )
+        });
+        accepted(&answer, given);
+        taken
+    }
+}
+
+fn accepted(answer: &Answer, given: &Given) {
+    let counts = (answer.refusal, answer.place, answer.nodes, answer.names);
+    assert_eq!(counts, (0, 0, given.nodes, given.names as u64), "the library from before");
+}

@@ -1,0 +1,67 @@
+//! The answer, as the checker gives it and the library is held to.
+
+use std::fmt;
+
+/// The answer of document 01: two counts, or a number and a place. `first` is 0 but for 23: there it is the place of the definition
+/// that is visible already.
+#[derive(Clone, Copy, Debug, PartialEq, Eq)]
+pub enum Verdict {
+    Accepted { nodes: u64, names: u64 },
+    Refused { number: u64, place: u64, first: u64 },
+}
+
+#[derive(Clone, Copy, Debug, PartialEq, Eq)]
+pub struct Refusal {
+    pub number: u64,
+    pub place: u64,
+    pub first: u64,
+}
+
+/// The refusal numbers of document 01 and its changes, for those who count what was reached.
+pub fn refusal_numbers() -> Vec<u64> {
+    let mut numbers = vec![1, 2, 3, 4, 5, 6, 7, 8, 9, 40];
+    numbers.extend(10..=16);
+    numbers.extend(20..=35);
+    numbers.extend([37, 38]);
+    numbers.sort_unstable();
+    numbers
+}
+
+/// As the program prints it.
+impl fmt::Display for Verdict {
+    fn fmt(&self, f: &mut fmt::Formatter<'_>) -> fmt::Result {
+        match self {
+            Verdict::Accepted { nodes, names } => write!(f, "accepted nodes {nodes} names {names}"),
+            Verdict::Refused { number: 23, place, first } => write!(f, "refused 23 at {place} first {first}"),
+            Verdict::Refused { number, place, .. } => write!(f, "refused {number} at {place}"),
+        }
+    }
+}
+
+impl Verdict {
+    /// Any refusal but 23.
+    pub fn refused(number: u64, place: u64) -> Verdict {
+        Verdict::Refused { number, place, first: 0 }
+    }
+
+    /// 23: the name at `place` is defined at `first` and visible.
+    pub fn twice(place: u64, first: u64) -> Verdict {
+        Verdict::Refused { number: 23, place, first }
+    }
+
+    /// Has `first` where there is one, and only there? A 23 has two places in a model of so many bytes, all else has 0.
+    pub fn tells_first(self, bytes: usize) -> bool {
+        match self {
+            Verdict::Refused { number: 23, place, first } => first != place && first < bytes as u64,
+            Verdict::Refused { first, .. } => first == 0,
+            Verdict::Accepted { .. } => true,
+        }
+    }
+
+    pub fn number(self) -> u64 {
+        match self {
+            Verdict::Accepted { .. } => 0,
+            Verdict::Refused { number, .. } => number,
+        }
+    }
+}
