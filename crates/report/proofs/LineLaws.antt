@@ -1,17 +1,20 @@
 -- A line is put together from its parts, each after the ones before.
 use Prim.Native.Nat.{ℕ, suc, _+_, _≤_, _<_}
-use mathlib.Core.Path.{_≡_, refl, sym, ap, subst⁻¹, _∙_}
-use mathlib.Core.List.{List, [], _∷_, _++_}
+use mathlib.Core.Path.{_≡_, refl, sym, ap, subst, subst⁻¹, _∙_}
+use mathlib.Core.Bool.{Bool, true, false}
+use mathlib.Core.List.{List, [], _∷_, _++_, append-nil, append-assoc}
 use native.Mathlib.Omega.{arith}
 use lib.ListN.{length, take, drop, getD, set, length-set, length-append}
 use lib.Seq.{paste, paste-zero, paste-suc, take-length, take-append-seam, drop-append-add, drop-drop}
+use borrow.Author.Tests.{eq-eqb, ne-eqb}
+use Rattle.varint.specs.Outcome.{fail}
 use Rattle.varint.specs.Bytes.{Bytes}
 use Rattle.varint.specs.Notation.{ascii}
 use Rattle.varint.specs.declared.Refusal.{Refusal}
 use Rattle.gate.specs.declared.checks.Answer.{Answer}
 use Rattle.gate.specs.declared.checks.Answer.the-variants as answer
 use Rattle.gate.specs.Meaning.{meaning}
-use Rattle.report.specs.Line.{decimal, numbersOf, lineOf, over}
+use Rattle.report.specs.Line.{decimal, numbersOf, firstOf, lineOf, over}
 
 -- The first `i` bytes of `text` stand in `out` from `start` on.
 pub record Putting (out₀ : List ℕ) (start : ℕ) (text : List ℕ) (i : ℕ) (out : List ℕ) : Type 0 where
@@ -72,19 +75,47 @@ abbrev pub Says : (out₀ text : Bytes) (r : ℕ) (out : Bytes) → Type 0
 Says out₀ text r out = (r ≡ length text) × (out ≡ over text out₀)
 
 pub numbers-written : (first : Bytes) (m : ℕ) (second : Bytes) (n : ℕ) {out₀ : Bytes} {r : ℕ} {out : Bytes}
-    → Written out₀ (first ++ decimal m ++ second ++ decimal n ++ (0x0A ∷ [])) r out
+    → Written out₀ (first ++ decimal m ++ second ++ decimal n) r out
     → Says out₀ (numbersOf first m second n) r out
 unfolding numbersOf
 numbers-written first m second n w = (w .size, w .so-far)
 
-pub line-accepted : (out₀ : Bytes) {a : Answer} {nodes names r : ℕ} {out : Bytes}
+-- A refusal's line before ` first N`, or before its end.
+abbrev Head : Refusal → Bytes
+Head f = numbersOf (ascii "refused ") (f .number) (ascii " at ") (f .place)
+
+-- ` first N`, by the test of the number.
+told : Refusal → Bool → Bytes
+told f b = elim b [ true ↦ ascii " first " ++ decimal (f .first) | false ↦ [] ]
+
+module _ (f : Refusal) {out₀ : Bytes} {r : ℕ} {out : Bytes} where
+  pub head-written : Says out₀ (Head f) r out → Written out₀ (Head f) r out
+  head-written says = record { size = says .0; so-far = says .1 }
+
+  ended : {text : Bytes} → text ≡ Head f ++ firstOf f → Written out₀ (text ++ (0x0A ∷ [])) r out → Says out₀ (lineOf (fail f)) r out
+  unfolding lineOf
+  ended e w = subst (λ t. Says out₀ (t ++ (0x0A ∷ [])) r out) e (w .size, w .so-far)
+
+  pub refused-first : f .number ≡ 23 → Written out₀ (Head f ++ ascii " first " ++ decimal (f .first) ++ (0x0A ∷ [])) r out
+      → Says out₀ (lineOf (fail f)) r out
+  unfolding firstOf told
+  refused-first e = ended (append-assoc (Head f) (ascii " first ") (decimal (f .first)) ∙ ap (λ b. Head f ++ told f b) (sym (eq-eqb _ _ e)))
+
+  pub refused-plain : (f .number ≡ 23 → ⊥) → Written out₀ (Head f ++ (0x0A ∷ [])) r out → Says out₀ (lineOf (fail f)) r out
+  unfolding firstOf told
+  refused-plain e = ended (sym (append-nil (Head f)) ∙ ap (λ b. Head f ++ told f b) (sym (ne-eqb _ _ e)))
+
+pub line-accepted : (out₀ : Bytes) {a : Answer} {nodes names r s : ℕ} {out next : Bytes}
     → a ≡ answer.Accepted nodes names → Says out₀ (numbersOf (ascii "accepted nodes ") nodes (ascii " names ") names) r out
-    → Says out₀ (lineOf (meaning a)) r out
+    → s ≡ r + 1 → next ≡ paste out r (0x0A ∷ []) 1
+    → Says out₀ (lineOf (meaning a)) s next
 unfolding lineOf meaning
-line-accepted out₀ {r} {out} e says = subst⁻¹ (λ x. Says out₀ (lineOf (meaning x)) r out) e says
+line-accepted out₀ {s} {next} e says d p =
+    let w = and-then (0x0A ∷ []) (record { size = says .0; so-far = says .1 }) d p in
+    subst⁻¹ (λ x. Says out₀ (lineOf (meaning x)) s next) e (w .size, w .so-far)
 
 pub line-refused : (out₀ : Bytes) {a : Answer} {f : Refusal} {r : ℕ} {out : Bytes}
-    → a ≡ answer.Refused f → Says out₀ (numbersOf (ascii "refused ") (f .number) (ascii " at ") (f .place)) r out
+    → a ≡ answer.Refused f → Says out₀ (lineOf (fail f)) r out
     → Says out₀ (lineOf (meaning a)) r out
-unfolding lineOf meaning
+unfolding meaning
 line-refused out₀ {r} {out} e says = subst⁻¹ (λ x. Says out₀ (lineOf (meaning x)) r out) e says

@@ -1,7 +1,5 @@
-use mathlib.Core.List.{[], _∷_}
 use native.Mathlib.Omega.{arith}
 use borrow.Author.Needs.{needs}
-use Rattle.io.proofs.Counting.{counts}
 use Rattle.report.specs.Line.{decimal}
 use Rattle.report.proofs.LineLaws.{nothing-yet, and-then, numbers-written}
 use Rattle.report.proofs.numbers.Statement.{statement}
@@ -9,23 +7,21 @@ use Rattle.report.proofs.numbers.Tie as tie
 
 returns : tie.Need-returns
 returns c =
-    let c3 = c .before .before .before in
-    let c5 = c3 .before .before in
-    let c7 = c5 .before .before in
-    let c9 = c7 .before .before in
-    let entry = c9 .before .before .before .before in
+    let c2 = c .before .before in
+    let c4 = c2 .before .before in
+    let c6 = c4 .before .before in
+    let entry = c6 .before .before .before .before in
     let first = entry .args .first .now in
     let second = entry .args .second .now in
     let m = entry .args .m in
     let n = entry .args .n in
-    let one = and-then first (nothing-yet (entry .args .out .now)) (c9 .put .ensures .0) (c9 .put .ensures .1) in
-    let two = and-then (decimal m) one (c7 .put-number .ensures .1 .0) (c7 .put-number .ensures .1 .1) in
-    let three = and-then second two (c5 .put2 .ensures .0) (c5 .put2 .ensures .1) in
-    let four = and-then (decimal n) three (c3 .put-number2 .ensures .1 .0) (c3 .put-number2 .ensures .1 .1) in
-    let five = and-then (0x0A ∷ []) four (c .put3 .ensures .0) (c .put3 .ensures .1) in (
-      counts _ _ (omega (arith, c .put3 .ensures .0, c3 .put-number2 .ensures .0, c5 .put2 .ensures .0, c7 .put-number .ensures .0, c9 .put .ensures .0)),
-      numbers-written first m second n five,
+    let one = and-then first (nothing-yet (entry .args .out .now)) (c6 .put .ensures .0) (c6 .put .ensures .1) in
+    let two = and-then (decimal m) one (c4 .put-number .ensures .1 .0) (c4 .put-number .ensures .1 .1) in
+    let three = and-then second two (c2 .put2 .ensures .0) (c2 .put2 .ensures .1) in
+    let four = and-then (decimal n) three (c .put-number2 .ensures .1 .0) (c .put-number2 .ensures .1 .1) in (
+      omega (arith, entry .pre, c .put-number2 .ensures .0, c2 .put2 .ensures .0, c4 .put-number .ensures .0, c6 .put .ensures .0),
+      numbers-written first m second n four,
     )
 
 pub numbers-spec : {M : Type 1} → statement M
-numbers-spec = tie.close (tie.spec (λ c κs. search needs) (λ c κs. search needs) (λ c κs. search needs) (λ c κs. search needs) (λ c. search needs) (λ c κs. search needs) returns)
+numbers-spec = tie.close (tie.spec (λ c κs. search needs) (λ c κs. search needs) (λ c κs. search needs) (λ c κs. search needs) returns)
