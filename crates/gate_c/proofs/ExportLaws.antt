@@ -23,11 +23,11 @@ use Rattle.gate_c.specs.declared.GatePart.{GatePart}
 use Rattle.gate_c.specs.Exports.{outcome, shownAt}
 
 module _ {o : Judged Counts} {r : Answer} (checked : meaning r ≡ o) where
-  pub outcome-accepted : {nodes names : ℕ} → r ≡ answer.Accepted nodes names → record { refusal = 0; place = 0; nodes = nodes; names = names } ≡ outcome o
+  pub outcome-accepted : {nodes names : ℕ} → r ≡ answer.Accepted nodes names → record { refusal = 0; place = 0; nodes = nodes; names = names; first = 0 } ≡ outcome o
   unfolding outcome meaning
   outcome-accepted e = ap outcome (says meaning checked e)
 
-  pub outcome-refused : {q : Refusal} → r ≡ answer.Refused q → record { refusal = q .number; place = q .place; nodes = 0; names = 0 } ≡ outcome o
+  pub outcome-refused : {q : Refusal} → r ≡ answer.Refused q → record { refusal = q .number; place = q .place; nodes = 0; names = 0; first = q .first } ≡ outcome o
   unfolding outcome meaning
   outcome-refused e = ap outcome (says meaning checked e)
 

@@ -15,6 +15,7 @@ pub struct GateAnswer {
     pub place: u64,
     pub nodes: u64,
     pub names: u64,
+    pub first: u64,
 }
 
 // Bytes of the model.
@@ -33,12 +34,14 @@ fn in_numbers(answer: Answer) -> GateAnswer
             place: 0,
             nodes: nodes,
             names: names as u64,
+            first: 0,
         },
         Answer::Refused(r) => GateAnswer {
             refusal: r.number as u64,
             place: r.place as u64,
             nodes: 0,
             names: 0,
+            first: r.first as u64,
         },
     }
 }
