@@ -17,7 +17,7 @@ pub(crate) fn reply(
     is_model_longer: bool,
     list: &[u8],
     is_list_longer: bool,
-    out: &mut [u8; 64],
+    out: &mut [u8; 96],
 ) -> usize
     ensures counts { λ r. ⌜ Counts r (now (out .exit)) ⌝ }
     ensures text { λ r. ⌜ take r (now (out .exit)) ≡ lineOf (answered (now (model .entry)) «is_model_longer» (now (list .entry)) «is_list_longer») ⌝ }

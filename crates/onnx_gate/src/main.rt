@@ -15,7 +15,7 @@ fn main() {
     let modelled = load(b"model.onnx", &mut model);
     let m = modelled.size;
     let l = listed.size;
-    let mut text = [0u8; 64];
+    let mut text = [0u8; 96];
     let n = reply(
         &model[..m],
         modelled.is_longer,
