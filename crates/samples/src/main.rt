@@ -5,6 +5,7 @@ mod shortcuts;
 mod shown;
 
 fn main() {
+    rows::two_cells();
     rows::imports();
     rows::ir_versions();
     rows::nested();

@@ -1,5 +1,19 @@
-// Document 01, "Sample models under L": the rows that are not marked P and fit in a frame. The rows at the limit of size do not.
+// Document 01, "Sample models under L": the rows that are not marked P and fit in a frame, and those that document 02 changes. The rows at
+// the limit of size do not fit.
 use crate::shown::row;
+use crate::shown::row_with;
+
+// "In 01 the accepted M1 row takes two cells; the row that answers 23 at 16 takes two and adds 13." With one cell no name fits.
+pub(crate) fn two_cells() {
+    let model = b"\x08\x08\x42\x02\x10\x0D\x3A\x0B\x12\x01g\x0A\x06\x12\x01a\x22\x01X";
+    row_with(b"M1, two cells", model, &mut [0; 2]);
+    row_with(b"M1, one cell", model, &mut [0; 1]);
+    row_with(
+        b"M1 with its output twice, two cells",
+        b"\x08\x08\x42\x02\x10\x0D\x3A\x0E\x12\x01g\x0A\x09\x12\x01a\x12\x01a\x22\x01X",
+        &mut [0; 2],
+    );
+}
 
 // "M0 with import 7 or 21 / 6 or 22 | accepted / 14 at 2"
 pub(crate) fn imports() {

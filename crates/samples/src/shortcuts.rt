@@ -96,8 +96,8 @@ pub(crate) fn defaults() {
           \x5A\x0B\x0A\x01x\x12\x06\x0A\x04\x08\x01\x12\x00\
           \x2A\x05\x10\x01\x42\x01x\
           \x0A\x09\x22\x01X\x0A\x01x\x12\x01y";
-    row_with(b"an input with a default, two cells", model, &mut [0; 2]);
-    row_with(b"an input with a default, one cell", model, &mut [0; 1]);
+    row_with(b"an input with a default, four cells", model, &mut [0; 4]);
+    row_with(b"an input with a default, three cells", model, &mut [0; 3]);
     row(
         b"an input with two defaults",
         b"\x08\x08\x42\x02\x10\x0D\x3A\x29\
