@@ -11,7 +11,6 @@ use Rattle.varint.specs.Bytes.{Bytes, member}
 use Rattle.wire.specs.Message.{numberOf, text, bytesOf, message}
 use Rattle.varint.proofs.Lists.{T-false}
 use Rattle.varint.proofs.Passing.{passed-bind, passed-seq, passed-rule}
-use Rattle.varint.proofs.Answers.{says}
 use Rattle.varint.proofs.Refusing.{when-broken, when-kept, broken, kept}
 use Rattle.schema.specs.Numbers.{Node·attribute, Attribute·name, Attribute·type, Attribute·ref-attr-name}
 use Rattle.schema.specs.Answers.{silent}

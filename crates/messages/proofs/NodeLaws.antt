@@ -11,14 +11,12 @@ use Rattle.varint.specs.Lists.{isEmpty}
 use Rattle.varint.specs.Bytes.{Bytes, member}
 use Rattle.wire.specs.Message.{firstOf, placeOf, text, bytesOf, message}
 use Rattle.varint.specs.declared.Refusal.{Refusal}
-use Rattle.varint.proofs.Answers.{says}
 use Rattle.varint.proofs.Refusing.{when-broken, when-kept, broken, kept}
 use Rattle.operators.specs.Operators.{domain}
 use Rattle.schema.specs.Numbers.{Graph·node, Node·name, Node·op-type, Node·domain}
 use Rattle.schema.specs.Answers.{silent}
 use Rattle.rules.specs.Identifier.{identifier}
 use Rattle.rules.specs.Names.{Name}
-use Rattle.rules.specs.Walk.{naming}
 use Rattle.rules.specs.Node.{nodeName}
 use Rattle.headers.specs.Imports.{importsIn}
 use Rattle.values.specs.Answers.{namingSays, nameField}

@@ -11,7 +11,6 @@ use Rattle.varint.specs.Lists.{isEmpty}
 use Rattle.varint.specs.Bytes.{Bytes}
 use Rattle.wire.specs.Message.{text, message}
 use Rattle.varint.proofs.Refusing.{when-broken, when-kept}
-use Rattle.varint.proofs.Answers.{says}
 use Rattle.schema.specs.Numbers.{ValueInfo·name}
 use Rattle.rules.specs.Identifier.{identifier}
 use Rattle.rules.specs.Names.{Name, nameIn}

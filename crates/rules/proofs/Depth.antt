@@ -2,7 +2,6 @@
 use Prim.Native.Nat.{ℕ, zero, suc, _+_, _-_, _≤_}
 use native.Mathlib.Omega.{arith}
 use mathlib.Core.Path.{_≡_, refl, sym, ap, _∙_}
-use mathlib.Core.Logic.{_⊎_, inl, inr}
 use mathlib.Core.Bool.{Bool, true, _||_}
 use mathlib.Core.List.{[]}
 use mathlib.Core.Option.{Option, none, some}
@@ -13,7 +12,7 @@ use Rattle.wire.specs.declared.Field.{Field}
 use Rattle.varint.specs.Lists.{keep}
 use Rattle.varint.specs.Bytes.{Bytes}
 use Rattle.wire.specs.Message.{allOf, firstOf, message, whole}
-use Rattle.varint.proofs.Lists.{or-cases, All, If, all-map, all-first, all-kept}
+use Rattle.varint.proofs.Lists.{All, If, all-map, all-first, all-kept}
 use Rattle.varint.proofs.Tells.{each-agree}
 use Rattle.schema.specs.declared.Kind.{Kind}
 use Rattle.schema.specs.declared.Kind.the-variants.{Model, Graph, Node, Attribute}

@@ -1,22 +1,20 @@
 -- Records of names: written, read, and compared with a name.
-use Prim.Native.Nat.{ℕ, suc, _+_, _-_, _*_, _/_, _≤_, _<_, min}
+use Prim.Native.Nat.{ℕ, _+_, _-_, _*_, _≤_, _<_, min}
 use native.Mathlib.Omega.{arith}
 use mathlib.Core.Path.{_≡_, refl, sym, ap, ap₂, _∙_}
 use mathlib.Core.Bool.{Bool, true, false, true≢false}
 use mathlib.Core.List.{List, [], _∷_, List·Memᴰ, List·Memᴰ·head}
 use mathlib.Core.Option.{some}
-use lib.ListN.{length, take, drop, getD, set, length-set, length-take, length-drop, List·getD-eq-default}
+use lib.ListN.{length, take, drop, getD, set, length-set, length-take, length-drop}
 use lib.Seq.{getD-take, getD-set-same, getD-set-other}
 use lib.Dec.{leb, eqb, eqb→eq}
 use borrow.Author.Tests.{le-leb, leb-true, leb-false}
 use Rattle.varint.specs.Outcome.{pass}
 use Rattle.varint.specs.Lists.{isEmpty, present, first}
 use Rattle.varint.specs.Bytes.{Bytes, part, same}
-use Rattle.varint.specs.Encoding.{encode}
 use Rattle.varint.proofs.Lists.{some-same}
 use Rattle.varint.proofs.Passing.{passed-tells}
 use Rattle.varint.proofs.SliceLaws.{same-length}
-use Rattle.varint.proofs.EncodingLaws.{width-last, width-more, width-one}
 use Rattle.wire.specs.Wire.{LEN, field}
 use Rattle.wire.specs.Message.{allOf, firstOf, text, message}
 use Rattle.wire.specs.Encoding.{contentsAt}
@@ -61,24 +59,6 @@ module _ (cells : List ℕ) (n place len : ℕ) where
     getD-set-same (set cells (2 * n) place) (2 * n + 1) len 0 (omega (arith, length-set cells (2 * n) place)),
   )
 
--- ---- one of them, read
-
-pub place-past : (cells : List ℕ) (i : ℕ) → length cells ≤ i → (0 ≡ placeIn cells i) × (0 < 4294967296)
-unfolding placeIn WIDTH
-place-past cells i h = (sym (List·getD-eq-default cells 0 (omega arith)), omega arith)
-
-pub length-past : (cells : List ℕ) (i : ℕ) → length cells ≤ i → (0 ≡ lengthIn cells i) × (0 < 4294967296)
-unfolding lengthIn WIDTH
-length-past cells i h = (sym (List·getD-eq-default cells 0 (omega arith)), omega arith)
-
-pub place-read : (cells : List ℕ) (i : ℕ) {r : ℕ} → (r ≡ getD cells (2 * i) 0) × (r < 4294967296) → (r ≡ placeIn cells i) × (r < 4294967296)
-unfolding placeIn WIDTH
-place-read cells i h = h
-
-pub length-read : (cells : List ℕ) (i : ℕ) {r : ℕ} → (r ≡ getD cells (2 * i + 1) 0) × (r < 4294967296) → (r ≡ lengthIn cells i) × (r < 4294967296)
-unfolding lengthIn WIDTH
-length-read cells i h = h
-
 -- a cell can hold what a record holds of a name
 pub direct-fits : (model : Bytes) (f : Field) → Direct model f → (most : ℕ) → length model < most → (f .place < most) × (f .next - f .start < most)
 unfolding contentsAt
@@ -119,31 +99,6 @@ module _ (model : Bytes) where
         bytes = elim (leb (at + (f .next - f .start)) (length model)) [ true ↦ part at (f .next - f .start) model | false ↦ [] ];
         place = f .place;
       }) (sym (d .there)) ∙ rw fits refl
-
--- ---- how many bytes a length takes
-
-pub width-two : (n : ℕ) → 128 ≤ n → n < 16384 → length (encode n) ≡ 2
-unfolding encode
-width-two n h k = width-more 9 n h ∙ ap suc (width-last 8 (n / 128) (omega arith))
-
-pub width-three : (n : ℕ) → 16384 ≤ n → n < 2097152 → length (encode n) ≡ 3
-unfolding encode
-width-three n h k = width-more 9 n (omega arith) ∙ ap suc (width-more 8 (n / 128) (omega arith) ∙ ap suc (width-last 7 (n / 128 / 128) (omega arith)))
-
-pub width-four : (n : ℕ) → 2097152 ≤ n → n < 268435456 → length (encode n) ≡ 4
-unfolding encode
-width-four n h k =
-    width-more 9 n (omega arith)
-    ∙ ap suc (width-more 8 (n / 128) (omega arith)
-    ∙ ap suc (width-more 7 (n / 128 / 128) (omega arith) ∙ ap suc (width-last 6 (n / 128 / 128 / 128) (omega arith))))
-
-pub width-five : (n : ℕ) → 268435456 ≤ n → n < 34359738368 → length (encode n) ≡ 5
-unfolding encode
-width-five n h k =
-    width-more 9 n (omega arith)
-    ∙ ap suc (width-more 8 (n / 128) (omega arith)
-    ∙ ap suc (width-more 7 (n / 128 / 128) (omega arith)
-    ∙ ap suc (width-more 6 (n / 128 / 128 / 128) (omega arith) ∙ ap suc (width-last 5 (n / 128 / 128 / 128 / 128) (omega arith)))))
 
 -- ---- a record beside a name that is not empty
 

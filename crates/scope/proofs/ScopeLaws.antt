@@ -4,10 +4,10 @@ use native.Mathlib.Omega.{arith}
 use native.Mathlib.Numerals.{add-one}
 use mathlib.Core.Path.{_≡_, refl, sym, ap, ap₂, _∙_}
 use mathlib.Core.Bool.{Bool, true, false, _||_}
-use mathlib.Core.List.{List, [], _∷_, _++_, map, append-nil, List·Memᴰ}
-use lib.ListN.{length, take, drop, getD, set, replicate, length-append, length-replicate, length-drop, length-set, drop-of-length-le}
-use lib.Seq.{take-take, take-set-le, getD-take, getD-set-same, getD-set-other}
-use lib.Dec.{leb, eqb, eqb→eq}
+use mathlib.Core.List.{List, [], _∷_, _++_, map, append-nil}
+use lib.ListN.{length, take, drop, set, replicate, length-append, length-replicate, length-drop, length-set, drop-of-length-le}
+use lib.Seq.{take-take, take-set-le}
+use lib.Dec.{leb}
 use borrow.Author.Fill.{fill-more}
 use borrow.Author.Tests.{le-leb, lt-leb}
 use Rattle.varint.specs.Outcome.{pass, _>>_, Judged, refused, refusedWith, refuse_at:_when:_, refuse_at:_first:_when:_}

@@ -1,7 +1,7 @@
 // The scope of the second walk, in cells that the caller lends: a record holds the place of the field that holds a name and the length
 // of the name, and the first `used` records are in use. What they mean stands in specs/Scope.antt.
 ghost use mathlib.Core.Path.{_≡_};
-ghost use Prim.Native.Nat.{ℕ, _^_, _≤_, _<_, max};
+ghost use Prim.Native.Nat.{ℕ, _+_, _*_, _^_, _≤_, _<_, max};
 ghost use mathlib.Core.Bool.{true};
 ghost use mathlib.Core.List.{List};
 ghost use lib.ListN.{length, getD, replicate};
@@ -9,7 +9,7 @@ ghost use Rattle.varint.specs.Outcome.{refused, refusedWith};
 ghost use Rattle.varint.specs.Bytes.{Bytes};
 ghost use Rattle.varint.specs.Encoding.{encode};
 ghost use Rattle.wire.specs.Encoding.{contentsAt};
-ghost use Rattle.rules.specs.Verdict.{room};
+ghost use Rattle.rules.specs.Verdict.{WIDTH, room};
 ghost use Rattle.scope.specs.Scope.{placeIn, lengthIn, stored, firstIn, stepSays, standing, left, grows};
 ghost use Rattle.scope.specs.declared.scopes.Progress.{Progress};
 use index::Found;
@@ -42,33 +42,31 @@ pub fn room(cells: usize) -> usize
     cells / WIDTH
 }
 
-fn cell_at(cells: &[u32], i: usize) -> usize
-    ensures { λ r. ⌜ (r ≡ getD (now (cells .entry)) i 0) × (r < 2 ^ 32) ⌝ }
+// A cell of a record, or 0 where it is not there.
+fn cell_at(cells: &[u32], i: usize, offset: usize) -> usize
+    requires { ⌜ offset < WIDTH ⌝ }
+    ensures { λ r. ⌜ (r ≡ getD (now (cells .entry)) (WIDTH * i + offset) 0) × (r < 2 ^ 32) ⌝ }
 {
-    if i < cells.len() {
-        return cells[i] as usize;
+    if cells.len() <= i {
+        return 0;
+    }
+    let at = WIDTH * i + offset;
+    if at < cells.len() {
+        return cells[at] as usize;
     }
     0
 }
 
-// The place in a record.
 pub(crate) fn place_at(cells: &[u32], i: usize) -> usize
     ensures { λ r. ⌜ (r ≡ placeIn (now (cells .entry)) i) × (r < 2 ^ 32) ⌝ }
 {
-    if cells.len() <= i {
-        return 0;
-    }
-    cell_at(cells, WIDTH * i)
+    cell_at(cells, i, 0)
 }
 
-// The length in a record.
 pub(crate) fn length_at(cells: &[u32], i: usize) -> usize
     ensures { λ r. ⌜ (r ≡ lengthIn (now (cells .entry)) i) × (r < 2 ^ 32) ⌝ }
 {
-    if cells.len() <= i {
-        return 0;
-    }
-    cell_at(cells, WIDTH * i + 1)
+    cell_at(cells, i, 1)
 }
 
 pub(crate) fn store(cells: &mut [u32], i: usize, place: usize, len: usize)

@@ -1,5 +1,6 @@
 -- The bytes of a varint that is not padded are its number's shortest form.
-use Prim.Native.Nat.{ℕ, suc, _+_, _-_, _*_, _/_, _%_, _≤_, _<_}
+use Prim.Native.Nat.{ℕ, zero, suc, _+_, _-_, _*_, _/_, _%_, _^_, _≤_, _<_}
+use native.Mathlib.Nat.{le-trans, one-le-pow, pow-succ'}
 use native.Mathlib.Omega.{arith}
 use mathlib.Core.Path.{_≡_, refl, ap, _∙_}
 use mathlib.Core.Bool.{Bool, true, false, _||_}
@@ -115,14 +116,30 @@ module _ (s : Bytes) (place end : ℕ) (inside : end ≤ length s) where
 
 -- ---- how many bytes a number takes
 
-pub width-last : (left n : ℕ) → n < 128 → length (encodeFrom (suc left) n) ≡ 1
+width-last : (left n : ℕ) → n < 128 → length (encodeFrom (suc left) n) ≡ 1
 unfolding encodeFrom
 width-last left n h = rw (lt-ltb n 128 h, encodeFrom) refl
 
-pub width-more : (left n : ℕ) → 128 ≤ n → length (encodeFrom (suc left) n) ≡ suc (length (encodeFrom left (n / 128)))
+width-more : (left n : ℕ) → 128 ≤ n → length (encodeFrom (suc left) n) ≡ suc (length (encodeFrom left (n / 128)))
 unfolding encodeFrom
 width-more left n h = rw (le-ltb n 128 h, encodeFrom) refl
 
 pub width-one : (n : ℕ) → n < 128 → length (encode n) ≡ 1
 unfolding encode
 width-one n h = width-last 9 n h
+
+-- a byte for each seven bits
+down : (low n high : ℕ) → 128 * low ≤ n → n < 128 * high → (low ≤ n / 128) × (n / 128 < high)
+down low n high h k = (omega arith, omega arith)
+
+width-from : (k left n : ℕ) → k ≤ left → 128 ^ suc k ≤ n → n < 128 ^ suc (suc k) → length (encodeFrom (suc (suc left)) n) ≡ suc (suc k)
+width-from zero left n l h i = width-more (suc left) n h ∙ ap suc (width-last left (n / 128) (down 1 n 128 h i .1))
+width-from (suc k) zero n l h i = absurd (omega arith)
+width-from (suc k) (suc left) n l h i =
+    let q = down (128 ^ suc k) n (128 ^ suc (suc k)) (rw (pow-succ' 128 (suc k)) at h) (rw (pow-succ' 128 (suc (suc k))) at i) in
+    let some : 1 ≤ n / 128 = le-trans (one-le-pow (suc k) 128 (omega arith)) (q .0) in
+    width-more (suc (suc left)) n (omega arith) ∙ ap suc (width-from k left (n / 128) (omega arith) (q .0) (q .1))
+
+pub width-above : (k n : ℕ) → k ≤ 8 → 128 ^ suc k ≤ n → n < 128 ^ suc (suc k) → length (encode n) ≡ suc (suc k)
+unfolding encode
+width-above k n l h i = width-from k 8 n l h i

@@ -4,11 +4,9 @@ use native.Mathlib.Omega.{arith}
 use mathlib.Core.Path.{_≡_, refl, ap, _∙_}
 use mathlib.Core.List.{[]}
 use mathlib.Core.Option.{Option, none, some}
-use lib.Dec.{eqb}
 use Rattle.varint.specs.Outcome.{pass}
-use Rattle.varint.specs.Lists.{first, keep}
 use Rattle.varint.specs.Bytes.{Bytes}
-use Rattle.wire.specs.Wire.{field, fields}
+use Rattle.wire.specs.Wire.{field}
 use Rattle.wire.specs.Message.{allOf, firstOf, numberOf, placeOf, text, bytesOf, message}
 use Rattle.wire.specs.Answers.{soughtSays, contentsOf, after, foundIn, soughtIn}
 use Rattle.wire.specs.declared.Field.{Field}

@@ -1,21 +1,41 @@
+use Prim.Native.Nat.{_+_, _*_}
 use native.Mathlib.Omega.{arith}
 use mathlib.Core.Path.{refl, sym}
 use lib.ListN.{List·getD-eq-default}
 use denote.Ref.{now}
 use borrow.Author.Needs.{needs}
+use Rattle.rules.specs.Verdict.{WIDTH}
 use Rattle.scope.proofs.scopes.cell_at.Statement.{statement}
 use Rattle.scope.proofs.scopes.cell_at.Tie as tie
 
-cast-result : tie.Need-cast-result
-cast-result c = omega (arith, c .shared-slice-known .given (c .before .before .args .i))
-
 returns : tie.Need-returns
-returns c = (refl, omega (arith, c .shared-slice-known .given (c .before .before .args .i)))
+unfolding WIDTH
+returns c = (sym (List·getD-eq-default (now (c .before .args .cells)) 0 (omega (arith, c .if1 .taken))), omega arith)
+
+add-at : tie.Need-add-at
+unfolding WIDTH
+add-at c = omega (arith, c .before .pre)
+
+cast-result : tie.Need-cast-result
+cast-result c = let a = c .before .before .before .args in omega (arith, c .shared-slice-known .given (2 * a .i + a .offset))
 
 returns-2 : tie.Need-returns-2
-returns-2 c = (sym (List·getD-eq-default (now (c .before .args .cells)) 0 (c .if1 .left)), omega arith)
+unfolding WIDTH
+returns-2 c = let a = c .before .before .before .args in (refl, omega (arith, c .shared-slice-known .given (2 * a .i + a .offset)))
+
+returns-3 : tie.Need-returns-3
+unfolding WIDTH
+returns-3 c = (sym (List·getD-eq-default (now (c .before .before .args .cells)) 0 (c .if2 .left)), omega arith)
 
 pub cell-at-spec : {M : Type 1} → statement M
 cell-at-spec =
     tie.close
-    (tie.spec (λ c. search needs) (λ c. search needs) cast-result returns returns-2)
+    (tie.spec
+    returns
+    (λ c. search needs)
+    add-at
+    (λ c. search needs)
+    (λ c. search needs)
+    cast-result
+    returns-2
+    returns-3)

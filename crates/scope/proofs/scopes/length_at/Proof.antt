@@ -1,20 +1,16 @@
-use Rattle.scope.proofs.RecordLaws.{length-past, length-read}
-use borrow.Author.Needs.{needs}
+use native.Mathlib.Omega.{arith}
+use Rattle.rules.specs.Verdict.{WIDTH}
+use Rattle.scope.specs.Scope.{lengthIn}
 use Rattle.scope.proofs.scopes.length_at.Statement.{statement}
 use Rattle.scope.proofs.scopes.length_at.Tie as tie
 
-returns : tie.Need-returns
-returns c = length-past _ _ (c .if1 .taken)
+cell-at-requires : tie.Need-cell-at-requires
+unfolding WIDTH
+cell-at-requires c κs = omega arith
 
-returns-2 : tie.Need-returns-2
-returns-2 c = length-read _ _ (c .cell-at .ensures)
+returns : tie.Need-returns
+unfolding lengthIn
+returns c = c .cell-at .ensures
 
 pub length-at-spec : {M : Type 1} → statement M
-length-at-spec =
-    tie.close
-    (tie.spec
-    returns
-    (λ c. search needs)
-    (λ c. search needs)
-    (λ c κs. search needs)
-    returns-2)
+length-at-spec = tie.close (tie.spec cell-at-requires returns)
