@@ -1,5 +1,5 @@
 -- Names in the order of the code's tests.
-use Prim.Native.Nat.{ℕ, _<_}
+use Prim.Native.Nat.{ℕ}
 use native.Mathlib.Omega.{arith}
 use mathlib.Core.Path.{_≡_, refl, sym, ap, _∙_}
 use mathlib.Core.Bool.{Bool, true, false, not}
@@ -15,7 +15,6 @@ use Rattle.wire.specs.Message.{firstOf, placeOf, text, bytesOf, message}
 use Rattle.varint.proofs.Lists.{T-false, some-same}
 use Rattle.varint.proofs.Answers.{says}
 use Rattle.varint.proofs.Passing.{fail-no-pass, pass-same, fail-same, passed-seq, passed-rule}
-use Rattle.wire.proofs.MessageLaws.{first-placed}
 use Rattle.varint.proofs.Refusing.{when-broken, when-kept}
 use Rattle.schema.specs.Answers.{silent}
 use Rattle.rules.specs.Identifier.{identifier}
@@ -99,13 +98,6 @@ module _ (model : Bytes) (empty number : ℕ) (m : Field) {x : Name} (k : pass x
       go : (o : Option Field) → o ≡ firstOf number (message model m) → (g : Field) × (some g ≡ firstOf number (message model m)) × (nameIn model g ≡ x)
       go none e = absurd (fail-no-pass _ _ (absent model empty number m e ∙ sym k))
       go (some g) e = (g, e, pass-same _ _ (passed-seq _ _ _ (passed-seq _ _ _ (sym (rest model empty number m e) ∙ sym k) .1) .1))
-
-  pub name-placed : x .place < m .next
-  unfolding nameIn
-  name-placed =
-      let e : name-field .0 .place ≡ x .place = ap (λ (y : Name). y .place) (name-field .2) in
-      let h = first-placed model number m (name-field .1) in
-      omega arith
 
 -- what an answer says of the name
 unfoldable pub nameSays : (model : Bytes) → Naming → Judged Name

@@ -162,11 +162,6 @@ pub along-contents : {S : Type 0} (s : Bytes) (number : ℕ) (step : S → Field
 unfolding allFrom allOf message contentsOf
 along-contents s number step t m e = rw e refl
 
--- which ends inside whatever the field ends inside
-pub contents-inside : (m : Field) (size : ℕ) {c : Cursor} → c ≡ contentsOf m → m .next ≤ size → c .end ≤ size
-unfolding contentsOf
-contents-inside m size e h = rw e h
-
 module _ {S : Type 0} {s : Bytes} {number end : ℕ} {step : S → Field → Judged S} {o : Judged S} {t : S} {c : Cursor} (q : Along s number end step o t c) where
   module _ {r : Sought} (read : soughtSays r ≡ soughtIn s number (c .end) (c .at)) where
     pub along-done : r ≡ sought.Missing → o ≡ pass t
@@ -202,9 +197,6 @@ module _ {S : Type 0} {s : Bytes} {number end : ℕ} {step : S → Field → Jud
 
       pub along-later : {g : Field} → List·Memᴰ g (allFrom s number end (next .at)) → List·Memᴰ g (allFrom s number end (c .at))
       along-later m = rw (went .list) (List·Memᴰ·tail m)
-
-      pub along-placed : f .place < end
-      along-placed = let short = went .placed in let near = went .inside in omega arith
 
       -- it stands where the cursor was, or later, and the next one after it
       pub along-from : c .at ≤ f .place

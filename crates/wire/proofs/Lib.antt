@@ -1,6 +1,5 @@
 pub mod Reading
 pub mod Fields
-pub mod Again
 pub mod CursorLaws
 pub mod ShortLaws
 pub mod QuickLaws

@@ -1,6 +1,5 @@
 -- The fields of a message by number, as code looks for them.
-use Prim.Native.Nat.{ℕ, _<_}
-use native.Mathlib.Omega.{arith}
+use Prim.Native.Nat.{ℕ}
 use mathlib.Core.Path.{_≡_, refl, ap, _∙_}
 use mathlib.Core.List.{[]}
 use mathlib.Core.Option.{Option, none, some}
@@ -78,6 +77,3 @@ module _ (s : Bytes) (number : ℕ) (m : Field) {f : Field} (k : some f ≡ firs
 
   pub first-read : field s (m .next) (f .place) ≡ pass f
   first-read = first-onward .read
-
-  pub first-placed : f .place < m .next
-  first-placed = let short = first-onward .placed in let near = first-onward .inside in omega arith

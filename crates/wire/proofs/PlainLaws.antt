@@ -15,7 +15,27 @@ use Rattle.wire.specs.Message.{message}
 use Rattle.wire.specs.Order.{Gapless}
 use Rattle.wire.specs.declared.Tag.{Tag}
 use Rattle.wire.specs.declared.Field.{Field}
-use Rattle.wire.proofs.Again.{Again, again-bind, again-rule, again-if}
+
+-- the second reading gives what the first one gave
+abbrev Again : {A : Type 0} → Judged A → Judged A → Type 0
+Again (pass a) o = o ≡ pass a
+Again (fail r) o = Unit {0}
+
+again-bind : {A B : Type 0} (j o : Judged A) (f g : A → Judged B) → Again j o → ((a : A) → Again (f a) (g a)) → Again (j >>= f) (o >>= g)
+unfolding _>>=_
+again-bind (pass a) o f g h k = rw h (k a)
+again-bind (fail r) o f g h k = tt
+
+-- a rule that the second reading breaks no sooner
+again-rule : {A : Type 0} (n p : ℕ) (b c : Bool) (j o : Judged A) → (T (not b) → T (not c)) → Again j o → Again (refuse n at: p when: b >> j) (refuse n at: p when: c >> o)
+unfolding _>>_ refuse_at:_when:_
+again-rule n p true c j o h k = tt
+again-rule n p false true j o h k = absurd (h tt)
+again-rule n p false false j o h k = k
+
+again-if : {A : Type 0} (b : Bool) (x y x′ y′ : Judged A) → Again x x′ → Again y y′ → Again {A = A} (elim b [ true ↦ x | false ↦ y ]) (elim b [ true ↦ x′ | false ↦ y′ ])
+again-if true x y x′ y′ h k = h
+again-if false x y x′ y′ h k = k
 
 sized-same : (t : Tag) (end v start size : ℕ) → Again (sized t end v start size) (sized t end v start size)
 sized-same t end v start size = go (sized t end v start size)
