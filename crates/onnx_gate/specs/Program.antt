@@ -9,8 +9,8 @@ use Rattle.varint.specs.Bytes.{Bytes}
 use Rattle.rules.specs.Verdict.{Counts, verdict}
 use Rattle.onnx_gate.specs.declared.files.Loaded.{Loaded}
 
--- The answer to what was read of the two files, and whether each is longer than its buffer. "4,096 cells"; "The program now holds 2,048"
--- names.
+-- The answer to what was read of the two files, and whether each is longer than its buffer. "4,096 cells", so
+-- 2,048 names.
 unfoldable pub answered : (model : Bytes) → (modelLonger : Bool) → (list : Bytes) → (listLonger : Bool) → Judged Counts
 answered model modelLonger list listLonger = do
   refuse 7 at: 0 when: modelLonger
