@@ -42,7 +42,7 @@ pub fn room(cells: usize) -> usize
     cells / WIDTH
 }
 
-// A cell of a record, or 0 where it is not there.
+// A cell of a record, or 0 where it is not there. A number of no record is not multiplied, since that could overflow.
 fn cell_at(cells: &[u32], i: usize, offset: usize) -> usize
     requires { ⌜ offset < WIDTH ⌝ }
     ensures { λ r. ⌜ (r ≡ getD (now (cells .entry)) (WIDTH * i + offset) 0) × (r < 2 ^ 32) ⌝ }
