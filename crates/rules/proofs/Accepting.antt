@@ -1,5 +1,5 @@
 -- What is accepted with some cells, and what more of them change: the verdict, from what `Cells` says of the second walk.
-use Prim.Native.Nat.{ℕ, _/_, _≤_, _<_}
+use Prim.Native.Nat.{ℕ, _≤_, _<_}
 use native.Mathlib.Omega.{arith}
 use mathlib.Core.Path.{_≡_, refl, ap, subst, subst⁻¹}
 use mathlib.Core.Logic.{inl}
@@ -61,9 +61,13 @@ unfolding _>>_
 unless-seq (pass a) j u h = h
 unless-seq (fail r) j u h = inl refl
 
+room-wider : (cells more : ℕ) → cells ≤ more → room cells ≤ room more
+unfolding room WIDTH
+room-wider cells more h = omega arith
+
 fills-wider : (cells more : ℕ) → cells ≤ more → (visible : ℕ) → visible < room cells → fills more visible ≡ false
-unfolding fills room WIDTH
-fills-wider cells more h visible l = lt-leb (more / 2) visible (omega arith)
+unfolding fills
+fills-wider cells more h visible l = lt-leb (room more) visible (omega (arith, room-wider cells more h))
 
 pub enoughCells : EnoughCells
 unfolding EnoughCells verdict

@@ -39,7 +39,7 @@ pub room-few : (size : ℕ) → room size ≤ size
 unfolding room WIDTH
 room-few size = omega arith
 
-pub room-fits : (i size : ℕ) → i < room size → 2 * i + 1 < size
+pub room-fits : (i size : ℕ) → i < room size → WIDTH * i + 1 < size
 unfolding room WIDTH
 room-fits i size h = omega arith
 
@@ -48,15 +48,15 @@ module _ (cells : List ℕ) (n place len : ℕ) where
   stored-other : (i : ℕ) → i < n → (placeIn (stored cells n place len) i ≡ placeIn cells i) × (lengthIn (stored cells n place len) i ≡ lengthIn cells i)
   unfolding placeIn lengthIn stored WIDTH
   stored-other i h = (
-    getD-set-other (set cells (2 * n) place) (2 * n + 1) (2 * i) len 0 (λ e. omega arith) ∙ getD-set-other cells (2 * n) (2 * i) place 0 (λ e. omega arith),
-    getD-set-other (set cells (2 * n) place) (2 * n + 1) (2 * i + 1) len 0 (λ e. omega arith) ∙ getD-set-other cells (2 * n) (2 * i + 1) place 0 (λ e. omega arith),
+    getD-set-other (set cells (WIDTH * n) place) (WIDTH * n + 1) (WIDTH * i) len 0 (λ e. omega arith) ∙ getD-set-other cells (WIDTH * n) (WIDTH * i) place 0 (λ e. omega arith),
+    getD-set-other (set cells (WIDTH * n) place) (WIDTH * n + 1) (WIDTH * i + 1) len 0 (λ e. omega arith) ∙ getD-set-other cells (WIDTH * n) (WIDTH * i + 1) place 0 (λ e. omega arith),
   )
 
   stored-same : n < room (length cells) → (placeIn (stored cells n place len) n ≡ place) × (lengthIn (stored cells n place len) n ≡ len)
   unfolding placeIn lengthIn stored room WIDTH
   stored-same h = (
-    getD-set-other (set cells (2 * n) place) (2 * n + 1) (2 * n) len 0 (λ e. omega arith) ∙ getD-set-same cells (2 * n) place 0 (omega arith),
-    getD-set-same (set cells (2 * n) place) (2 * n + 1) len 0 (omega (arith, length-set cells (2 * n) place)),
+    getD-set-other (set cells (WIDTH * n) place) (WIDTH * n + 1) (WIDTH * n) len 0 (λ e. omega arith) ∙ getD-set-same cells (WIDTH * n) place 0 (omega arith),
+    getD-set-same (set cells (WIDTH * n) place) (WIDTH * n + 1) len 0 (omega (arith, length-set cells (WIDTH * n) place)),
   )
 
 -- a cell can hold what a record holds of a name
@@ -71,10 +71,10 @@ direct-fits model f d most h =
 -- only the records in use count
 pub placed-prefix : (a b : List ℕ) (used i : ℕ) → i < used → take (WIDTH * used) a ≡ take (WIDTH * used) b → (placeIn a i ≡ placeIn b i) × (lengthIn a i ≡ lengthIn b i)
 unfolding placeIn lengthIn WIDTH
-placed-prefix a b used i h e = (at (2 * i) (omega arith), at (2 * i + 1) (omega arith))
+placed-prefix a b used i h e = (at (WIDTH * i) (omega arith), at (WIDTH * i + 1) (omega arith))
   where
-    at : (k : ℕ) → k < 2 * used → getD a k 0 ≡ getD b k 0
-    at k l = sym (getD-take (2 * used) a k 0 l) ∙ ap (λ (l : List ℕ). getD l k 0) e ∙ getD-take (2 * used) b k 0 l
+    at : (k : ℕ) → k < WIDTH * used → getD a k 0 ≡ getD b k 0
+    at k l = sym (getD-take (WIDTH * used) a k 0 l) ∙ ap (λ (l : List ℕ). getD l k 0) e ∙ getD-take (WIDTH * used) b k 0 l
 
 module _ (model : Bytes) where
   pub recorded-by : (a b : List ℕ) (i : ℕ) → (placeIn a i ≡ placeIn b i) × (lengthIn a i ≡ lengthIn b i) → recorded model a i ≡ recorded model b i

@@ -17,11 +17,12 @@ unfolding WIDTH
 add-at c = omega (arith, c .before .pre)
 
 cast-result : tie.Need-cast-result
-cast-result c = let a = c .before .before .before .args in omega (arith, c .shared-slice-known .given (2 * a .i + a .offset))
+unfolding WIDTH
+cast-result c = let a = c .before .before .before .args in omega (arith, c .shared-slice-known .given (WIDTH * a .i + a .offset))
 
 returns-2 : tie.Need-returns-2
 unfolding WIDTH
-returns-2 c = let a = c .before .before .before .args in (refl, omega (arith, c .shared-slice-known .given (2 * a .i + a .offset)))
+returns-2 c = let a = c .before .before .before .args in (refl, omega (arith, c .shared-slice-known .given (WIDTH * a .i + a .offset)))
 
 returns-3 : tie.Need-returns-3
 unfolding WIDTH
