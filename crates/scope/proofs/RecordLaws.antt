@@ -3,18 +3,19 @@ use Prim.Native.Nat.{ℕ, _+_, _-_, _*_, _≤_, _<_, min}
 use native.Mathlib.Omega.{arith}
 use mathlib.Core.Path.{_≡_, refl, sym, ap, ap₂, _∙_}
 use mathlib.Core.Bool.{Bool, true, false, true≢false}
-use mathlib.Core.List.{List, [], _∷_, List·Memᴰ, List·Memᴰ·head}
+use mathlib.Core.List.{List, [], _∷_, List·Memᴰ}
 use mathlib.Core.Option.{some}
-use lib.ListN.{length, take, drop, getD, set, length-set, length-take, length-drop}
+use lib.ListN.{length, take, getD, set, length-set}
 use lib.Seq.{getD-take, getD-set-same, getD-set-other}
 use lib.Dec.{leb, eqb, eqb→eq}
 use borrow.Author.Tests.{le-leb, leb-true, leb-false}
 use Rattle.varint.specs.Outcome.{pass}
-use Rattle.varint.specs.Lists.{isEmpty, present, first}
+use Rattle.varint.specs.Lists.{isEmpty}
 use Rattle.varint.specs.Bytes.{Bytes, part, same}
-use Rattle.varint.proofs.Lists.{some-same}
+use Rattle.varint.proofs.Lists.{first-here}
 use Rattle.varint.proofs.Passing.{passed-tells}
 use Rattle.varint.proofs.SliceLaws.{same-length}
+use Rattle.varint.proofs.EncodingLaws.{part-size}
 use Rattle.wire.specs.Wire.{LEN, field}
 use Rattle.wire.specs.Message.{allOf, firstOf, text, message}
 use Rattle.wire.specs.Encoding.{contentsAt}
@@ -29,6 +30,7 @@ use Rattle.schema.specs.Rows.{rowOf, Rows·computes}
 use Rattle.schema.specs.FirstWalk.{wireOf, fits}
 use Rattle.schema.specs.Opened.{Walked}
 use Rattle.schema.proofs.Opened.{walked-number, walked-fits}
+use Rattle.index.proofs.ListingLaws.{same-empty}
 use Rattle.rules.specs.Names.{nameIn}
 use Rattle.rules.specs.Verdict.{WIDTH, room}
 use Rattle.scope.specs.Scope.{placeIn, lengthIn, stored, nameAt, recorded, Direct}
@@ -102,19 +104,10 @@ module _ (model : Bytes) where
 
 -- ---- a record beside a name that is not empty
 
-part-size : (s : Bytes) (a n : ℕ) → length (part a n s) ≡ min n (length s - a)
-unfolding part
-part-size s a n = length-take n (drop a s) ∙ ap (min n) (length-drop a s)
-
 some-length : (x : Bytes) → isEmpty x ≡ false → 0 < length x
 unfolding isEmpty
 some-length [] e = absurd (true≢false e)
 some-length (b ∷ x) e = omega arith
-
-not-empty : (x : Bytes) → isEmpty x ≡ false → false ≡ same x []
-unfolding isEmpty same
-not-empty [] e = sym e
-not-empty (b ∷ x) e = refl
 
 module _ (model : Bytes) (cells : List ℕ) (i : ℕ) (name : Bytes) (some : isEmpty name ≡ false) (len : ℕ) (el : len ≡ lengthIn cells i) where
   abbrev start : ℕ
@@ -122,6 +115,10 @@ module _ (model : Bytes) (cells : List ℕ) (i : ℕ) (name : Bytes) (some : isE
 
   abbrev there : Bool → Bytes
   there b = elim b [ true ↦ part start len model | false ↦ [] ]
+
+  apart : false ≡ same name []
+  unfolding isEmpty
+  apart = sym (same-empty name [] some refl)
 
   by-length : recorded model cells i .bytes ≡ there (leb (start + len) (length model))
   unfolding recorded nameAt
@@ -132,7 +129,7 @@ module _ (model : Bytes) (cells : List ℕ) (i : ℕ) (name : Bytes) (some : isE
     where
       go : (b : Bool) → (b ≡ true → start + len ≤ length model) → false ≡ same name (there b)
       go true h = same-length name (part start len model) (λ e. differ (let l = h refl in let size = part-size model start len in omega arith))
-      go false h = not-empty name some
+      go false h = apart
 
   -- s is where it begins, x what the model has there, t the answer of the comparison
   pub same-there : len ≡ length name → {s : ℕ} → s ≡ start → {x : Bytes} → x ≡ part s (s + len - s) model → {t : Bool} → t ≡ same name x
@@ -144,7 +141,7 @@ module _ (model : Bytes) (cells : List ℕ) (i : ℕ) (name : Bytes) (some : isE
       go : (b : Bool) → (b ≡ false → length model < start + len) → same name (part start len model) ≡ same name (there b)
       go true h = refl
       go false h =
-          sym (same-length name (part start len model) (λ e. let l = h refl in let size = part-size model start len in nothing e l size)) ∙ not-empty name some
+          sym (same-length name (part start len model) (λ e. let l = h refl in let size = part-size model start len in nothing e l size)) ∙ apart
         where
           nothing : length name ≡ length (part start len model) → length model < start + len → length (part start len model) ≡ min len (length model - start) → ⊥
           nothing e l size = let one = some-length name some in omega arith
@@ -166,11 +163,6 @@ tensor-name = (λ wire. refl, omega arith)
 pub node-output : OfBytes Node Node·output
 unfolding fits wireOf Rows·computes
 node-output = (λ wire. refl, omega arith)
-
-pub first-here : (l : List Field) {f : Field} → some f ≡ first l → List·Memᴰ f l
-unfolding first present
-first-here [] e = absurd (true≢false (ap present e))
-first-here (g ∷ l) {f} e = List·Memᴰ·head (some-same f g e)
 
 module _ {model : Bytes} {kind : Kind} {m : Field} (w : Walked model kind m) {n : ℕ} (row : OfBytes kind n) {f : Field} where
   -- a name in a message that the first walk passed

@@ -16,6 +16,7 @@ use Rattle.wire.specs.declared.Field.{Field}
 use Rattle.wire.specs.declared.Cursor.{Cursor}
 use Rattle.wire.specs.declared.Sought.{Sought}
 use Rattle.wire.specs.declared.Sought.the-variants as sought
+use Rattle.varint.proofs.Lists.{first-here}
 use Rattle.varint.proofs.Passing.{passed-tells}
 use Rattle.wire.proofs.Reading.{Fits, AtTag, field-tells}
 use Rattle.wire.proofs.MessageLaws.{missing, found, first-read}
@@ -35,7 +36,6 @@ use Rattle.values.specs.declared.Ruling.{Ruling}
 use Rattle.values.specs.declared.Ruling.the-variants as ruling
 use Rattle.scope.specs.declared.scopes.Progress.{Progress}
 use Rattle.scope.specs.declared.scopes.Step.{Step}
-use Rattle.scope.proofs.RecordLaws.{first-here}
 use Rattle.headers.proofs.Silent.{silent-fails, silent-passes}
 use Rattle.values.proofs.RulingLaws.{ruled-kept, ruled-refused}
 use Rattle.headers.proofs.HeaderLaws.{header-imports}

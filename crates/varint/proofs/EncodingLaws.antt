@@ -1,5 +1,5 @@
 -- The bytes of a varint that is not padded are its number's shortest form.
-use Prim.Native.Nat.{ℕ, zero, suc, _+_, _-_, _*_, _/_, _%_, _^_, _≤_, _<_}
+use Prim.Native.Nat.{ℕ, zero, suc, _+_, _-_, _*_, _/_, _%_, _^_, _≤_, _<_, min}
 use native.Mathlib.Nat.{le-trans, one-le-pow, pow-succ'}
 use native.Mathlib.Omega.{arith}
 use mathlib.Core.Path.{_≡_, refl, ap, _∙_}
@@ -34,9 +34,12 @@ part-first s a c h k =
     let next : suc a ≡ a + 1 = omega arith in
     rw one (ap (take (suc (c - (a + 1)))) (drop-cons s a 0 k) ∙ ap (λ (x : ℕ). byte s a ∷ take (c - (a + 1)) (drop x s)) next)
 
-pub part-length : (s : Bytes) (a c : ℕ) → c ≤ length s → length (part a (c - a) s) ≡ c - a
+pub part-size : (s : Bytes) (a n : ℕ) → length (part a n s) ≡ min n (length s - a)
 unfolding part
-part-length s a c h = let n = length-take (c - a) (drop a s) in let m = length-drop a s in omega arith
+part-size s a n = length-take n (drop a s) ∙ ap (min n) (length-drop a s)
+
+pub part-length : (s : Bytes) (a c : ℕ) → c ≤ length s → length (part a (c - a) s) ≡ c - a
+part-length s a c h = let n = part-size s a (c - a) in omega arith
 
 -- ---- a varint
 

@@ -2,7 +2,7 @@
 use Prim.Native.Nat.{ℕ}
 use mathlib.Core.Path.{_≡_, refl, sym, subst, ap, ap₂, _∙_}
 use mathlib.Core.Logic.{_↔_, _⊎_, inl, inr}
-use mathlib.Core.Bool.{Bool, true, false, not, _&&_, _||_}
+use mathlib.Core.Bool.{Bool, true, false, not, true≢false, _&&_, _||_}
 use mathlib.Core.List.{List, [], _∷_, _++_, map, flatMap, append-assoc, List·Memᴰ, List·Memᴰ·head, List·Memᴰ·tail, List·Memᴰ·not-nil, List·Memᴰ·cases-cons}
 use mathlib.Core.Option.{Option, none, some}
 use lib.Dec.{T, eqb, eqb→eq}
@@ -60,6 +60,11 @@ pub all-first : {A : Type 0} (Q : A → Type 0) (l : List A) → All Q l → If 
 unfolding first
 all-first Q [] q = tt
 all-first Q (a ∷ l) q = q .0
+
+pub first-here : {A : Type 0} (l : List A) {a : A} → some a ≡ first l → List·Memᴰ a l
+unfolding first present
+first-here [] e = absurd (true≢false (ap present e))
+first-here (b ∷ l) {a} e = List·Memᴰ·head (some-same a b e)
 
 -- ---- keep
 
