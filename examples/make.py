@@ -151,6 +151,18 @@ def nested(depth):
     return model(inner)
 
 
+def exported():
+    """Names as PyTorch's exporter writes them, which are no identifiers; a variable of a shape is none either."""
+    dense, bias = "/encoder/MatMul_output_0", "encoder.bias"
+    return model(graph(
+        "main_graph",
+        graph_input("x", dims=("batch-size", 4)), WEIGHTS, initializer(bias, dims=(4,), raw=bytes(16)),
+        node("MatMul", ["x", "w"], [dense], name="/encoder/MatMul"),
+        node("Add", [bias, dense], ["y"], name="/encoder/Add"),
+        graph_output("y", dims=("batch-size", 4))))
+
+
+LATIN_1 = "première".encode("latin-1")
 RELU = node("Relu", ["h"], ["y"], name="relu1")
 DENSE = node("MatMul", ["x", "w"], ["h"], name="dense1")
 
@@ -158,6 +170,7 @@ MODELS = {
     "ok-tagger": tagger(),
     "ok-network": model(chain()),
     "ok-default-value": model(chain(inputs=[graph_input("x"), graph_input("w", dims=(4, 4))])),
+    "ok-exported-names": exported(),
     "ok-padded-ints": model(
         layer(node("Transpose", ["x"], ["y"], part(1, "perm") + part(8, padded(1, 2) + padded(0, 3)) + number(20, INTS)))),
     "ok-classifier": model(
@@ -182,7 +195,7 @@ MODELS = {
     "15-functions": model(chain(), more=part(25, part(1, "my_function"))),
     "16-sparse-initializer": model(layer(DENSE, RELU, part(15, b""))),
     "20-graph-without-name": model(chain()[len(part(2, "network")):]),
-    "21-name-with-slash": model(layer(node("MatMul", ["x", "w"], ["/dense/out"]), node("Relu", ["/dense/out"], ["y"]))),
+    "21-not-utf8": model(layer(node("MatMul", ["x", "w"], [LATIN_1]), node("Relu", [LATIN_1], ["y"]))),
     "22-input-without-name": model(chain(inputs=[graph_input("")])),
     "23-defined-twice": model(layer(DENSE, node("Tanh", ["h"], ["h"], name="tanh1"), RELU)),
     "23-default-twice": model(layer(WEIGHTS, DENSE, RELU, inputs=[graph_input("x"), graph_input("w", dims=(4, 4))])),

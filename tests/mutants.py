@@ -41,7 +41,7 @@ class Program:
 # The quick ones first. `{}` is the changed file, which Python's tests load and the others are.
 PROGRAMS = [
     Program("target/c/samples-c99", ("{}",), ".", 30),
-    Program("tests/target/release/gate_tests", ("{}",), ".", 150),
+    Program("tests/target/release/gate_tests", ("{}",), ".", 240),
     Program("bindings/python/onnx_gate/libonnx_gate.so", ("python3", "-m", "unittest", "-f"), "bindings/python", 150),
 ]
 

@@ -43,7 +43,7 @@ answers() {
 # One line for each answer: how often, what, the rule, and the first file that had it.
 histogram() {
     awk -v folder="$1/" '
-        match($0, /: accepted nodes [0-9]+ names [0-9]+$/) { note("accepted") ; next }
+        match($0, /: accepted nodes [0-9]+ names [0-9]+ odd [0-9]+$/) { note("accepted") ; next }
         match($0, /: refused [0-9]+ at [0-9]+( first [0-9]+)?$/) { split(substr($0, RSTART + 2), words, " "); note("refused " words[2]); next }
         /^  rule / && !(last in rule) { sub(/^  rule +/, ""); rule[last] = $0 }
         function note(answer,   file) {

@@ -1,6 +1,6 @@
 #!/usr/bin/env python3
-"""Says whether C, Rust and Python have the same refusals, number, name and explanation, the same version, and as many cells for a name.
-Status 1 where not."""
+"""Says whether C, Rust and Python have the same refusals, number, name and explanation, the same version, as many cells for a name, and
+the same numbers in an answer. Status 1 where not."""
 
 import ast
 import re
@@ -10,7 +10,8 @@ from pathlib import Path
 BINDINGS = Path(__file__).resolve().parent.parent / "bindings"
 HEADER = (BINDINGS / "c/onnx_gate.h").read_text()
 PYTHON = BINDINGS / "python/onnx_gate"
-CHECKER = BINDINGS.parent / "tests/src/checker.rs"
+RUST = (BINDINGS / "rust/src/lib.rs").read_text()
+TESTS = BINDINGS.parent / "tests/src"
 
 
 def of_c():
@@ -43,11 +44,22 @@ def cells():
     """How wide a record is: each language states it once, and the checker too."""
     found = {
         "C": re.search(r"^#define ONNX_GATE_CELLS_PER_NAME (\d+)", HEADER, re.MULTILINE),
-        "Rust": re.search(r"^pub const CELLS_PER_NAME: usize = (\d+);", (BINDINGS / "rust/src/lib.rs").read_text(), re.MULTILINE),
+        "Rust": re.search(r"^pub const CELLS_PER_NAME: usize = (\d+);", RUST, re.MULTILINE),
         "Python": re.search(r"^CELLS_PER_NAME = (\d+)", (PYTHON / "_sizing.py").read_text(), re.MULTILINE),
-        "the checker": re.search(r"^pub const CELLS_PER_NAME: usize = (\d+);", CHECKER.read_text(), re.MULTILINE),
+        "the checker": re.search(r"^pub const CELLS_PER_NAME: usize = (\d+);", (TESTS / "checker.rs").read_text(), re.MULTILINE),
     }
     return {language: match and match[1] for language, match in found.items()}
+
+
+def answers():
+    """What crosses, in its order: who has one number fewer than the library writes over what stands behind it."""
+    found = {
+        "C": (r"struct onnx_gate_answer \{(.*?)\n\};", r"uint64_t (\w+);", HEADER),
+        "Rust": (r"struct Answer \{(.*?)\}", r"(\w+): u64", RUST),
+        "Python": (r"class Answered.*?in \((.*?)\)", r'"(\w+)"', (PYTHON / "_library.py").read_text()),
+        "the tests": (r"struct Answer \{(.*?)\}", r"(\w+): u64", (TESTS / "gate.rs").read_text()),
+    }
+    return {who: tuple(re.findall(name, re.search(whole, text, re.DOTALL)[1])) for who, (whole, name, text) in found.items()}
 
 
 def main():
@@ -58,9 +70,11 @@ def main():
         wrong.append(f"versions: {versions()}")
     if len(set(cells().values())) != 1:
         wrong.append(f"cells for a name: {cells()}")
+    if len(set(answers().values())) != 1:
+        wrong.append(f"an answer: {answers()}")
     if wrong or len(rust) < 36:
         sys.exit("\n".join(["same_rules.py: the bindings differ", *wrong]))
-    print(f"{len(rust)} refusals, the version and the cells for a name are the same in C, Rust and Python")
+    print(f"{len(rust)} refusals, the version, the cells for a name and an answer's numbers are the same in C, Rust and Python")
 
 
 if __name__ == "__main__":

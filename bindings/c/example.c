@@ -72,7 +72,7 @@ static struct onnx_gate_answer check(const uint8_t *model, size_t length, uint64
 static void print(struct onnx_gate_answer answer)
 {
     if (answer.refusal == ONNX_GATE_ACCEPTED)
-        printf("accepted nodes %" PRIu64 " names %" PRIu64 "\n", answer.nodes, answer.names);
+        printf("accepted nodes %" PRIu64 " names %" PRIu64 " odd %" PRIu64 "\n", answer.nodes, answer.names, answer.odd);
     else if (answer.refusal == ONNX_GATE_ALREADY_VISIBLE)
         printf("refused %" PRIu64 " at %" PRIu64 " first %" PRIu64 "\n", answer.refusal, answer.place, answer.first);
     else

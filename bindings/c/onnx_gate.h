@@ -27,7 +27,8 @@
 extern "C" {
 #endif
 
-/* An answer: accepted with two counts, or refused with a number and a place, and 23 with a second place. What does not apply is 0. */
+/* An answer: accepted with three counts, or refused with a number and a place, and 23 with a second place. What does not apply
+ * is 0. */
 struct onnx_gate_answer {
     uint64_t refusal; /* 0: accepted. Else one of the numbers below. */
     uint64_t place;   /* refused: the byte of the model at which the field at fault begins; for something absent, the message
@@ -37,6 +38,11 @@ struct onnx_gate_answer {
     uint64_t first;   /* refused with 23: the place of the definition that is already visible, as `place` the byte at which the
                          field that holds the name begins; of an input with a default it is the input's. It may lie behind
                          `place`, as inputs are judged before initializers and these before nodes wherever they stand. */
+    uint64_t odd;     /* accepted: how many fields hold a name that is no identifier of C (a letter or underscore, then letters,
+                         digits and underscores, ASCII only), as exporters write them: /encoder/MatMul_output_0. Counted is each
+                         name of a graph, input, output, initializer, node and attribute, each op_type, input and output of a node,
+                         and each dim_param of the main graph's inputs and outputs; not domains, nor what stands in a value_info, in
+                         the type of a body's input or output, or in an attribute's value but a graph. */
 };
 
 /* The refusals. Of several that apply the first is told: 65, which is for onnx_gate_check_indexed only; 7; 8; the first of 1 to 6
@@ -61,8 +67,7 @@ enum onnx_gate_refusal {
     ONNX_GATE_FUNCTIONS_PRESENT = 15,   /* the model has functions of its own */
     ONNX_GATE_SPARSE_INITIALIZER = 16,  /* a graph has a sparse_initializer */
     ONNX_GATE_GRAPH_NAME_EMPTY = 20,    /* a graph must have a name */
-    ONNX_GATE_NOT_IDENTIFIER = 21,      /* not an identifier: a letter or underscore, then letters, digits and underscores, ASCII
-                                           only */
+    ONNX_GATE_NOT_UTF8 = 21,            /* not well-formed UTF-8, or an empty dim_param */
     ONNX_GATE_NAME_EMPTY = 22,          /* an input, initializer, output or attribute must have a name */
     ONNX_GATE_ALREADY_VISIBLE = 23,     /* the name is already defined and visible here */
     ONNX_GATE_NO_TENSOR_TYPE = 24,      /* an input or output of the main graph must have a tensor type */
@@ -134,7 +139,7 @@ struct onnx_gate_part {
 
 /* Shows a name, or any other part of a model: where the `length` bytes from `start` on lie in it. A range that does not fit, however
  * large its numbers, gives { 0, 0 }: the empty part at the model's start. No byte of the model is read. The name that is shown
- * is not ended by a 0: print it with its length.
+ * is not ended by a 0: print it with its length, and not raw, as it may hold zeros and what a terminal obeys.
  *
  *   model, model_length  the bytes of the model.
  *   start, length        the range, in bytes.

@@ -14,10 +14,16 @@
 /* M0 with more in its graph, which has this length then; and with a node of these inputs and outputs */
 #define OF_GRAPH(length, more) "\x08\x08\x42\x02\x10\x0D\x3A" length "\x12\x01\x67" more
 #define OF_NODE(named) OF_GRAPH("\x0E", "\x0A\x09" named "\x22\x01\x58")
-#define INPUT "\x5A\x0B\x0A\x01w\x12\x06\x0A\x04\x08\x01\x12\x00"
-#define TENSOR "\x2A\x05\x42\x01w\x10\x01"
+#define INPUT(name) "\x5A\x0B\x0A\x01" name "\x12\x06\x0A\x04\x08\x01\x12\x00"
+#define TENSOR(name) "\x2A\x05\x42\x01" name "\x10\x01"
 #define WRITES(name) "\x0A\x06\x12\x01" name "\x22\x01\x58"
-#define WITH_BODY "\x0A\x1B\x12\x01" "a\x22\x01\x58\x2A\x13\x0A\x01k\x32\x0B\x12\x01h" WRITES("b") "\xA0\x01\x05"
+#define READS(name) "\x0A\x09\x0A\x01" name "\x12\x01\x62\x22\x01\x58"
+#define BODY(graph, output)                                                                                                        \
+    "\x0A\x1B\x12\x01" "a\x22\x01\x58\x2A\x13\x0A\x01k\x32\x0B\x12\x01" graph WRITES(output) "\xA0\x01\x05"
+#define WITH_BODY BODY("h", "b")
+/* an input of the main graph whose one dim has this dim_param, and the lengths that this makes */
+#define DIM(input, type, tensor, shape, dim, named)                                                                                \
+    "\x5A" input "\x0A\x01w\x12" type "\x0A" tensor "\x08\x01\x12" shape "\x0A" dim "\x12" named
 /* M1 with an attribute of type 7, and the lengths that this makes */
 #define INTS(graph, node, attribute, ints)                                                                                         \
     "\x08\x08\x42\x02\x10\x0D\x3A" graph "\x12\x01\x67\x0A" node "\x12\x01\x61\x22\x01\x58\x2A" attribute                           \
@@ -34,74 +40,90 @@ static const struct sample {
     size_t cells;
     struct onnx_gate_answer answer;
 } samples[] = {
-    {NULL, 0, BYTES(L), 0, {10, 0, 0, 0, 0}},
-    {BYTES("\x08"), BYTES(L), 0, {1, 0, 0, 0, 0}},
-    {BYTES("\x00"), BYTES(L), 0, {3, 0, 0, 0, 0}},
-    {BYTES("\x0A"), BYTES(L), 0, {4, 0, 0, 0, 0}},
-    {BYTES("\x08\x08\x08\x08"), BYTES(L), 0, {5, 2, 0, 0, 0}},
-    {BYTES("\x08" NINE "\x01"), BYTES(L), 0, {10, 0, 0, 0, 0}},
-    {BYTES("\x08" NINE "\x02"), BYTES(L), 0, {2, 0, 0, 0, 0}},
-    {BYTES(M0), BYTES(L), 0, {0, 0, 0, 0, 0}},
-    {BYTES(M1), BYTES(L), 2, {0, 0, 1, 1, 0}},
-    {BYTES(M1), BYTES(L), 3, {0, 0, 1, 1, 0}},
-    {BYTES(M1), BYTES(L), 8, {0, 0, 1, 1, 0}},
-    {BYTES(M1), BYTES(L), 9, {0, 0, 1, 1, 0}},
-    {BYTES(M1), BYTES(L), 0, {40, 13, 0, 0, 0}},
-    {BYTES(M1), BYTES(L), 1, {40, 13, 0, 0, 0}},
-    {BYTES(OF_NODE("\x0A\x01\x61\x12\x01\x61")), BYTES(L), 0, {30, 13, 0, 0, 0}},
-    {BYTES(OF_NODE("\x0A\x01\x61\x12\x01\x61")), BYTES(L), 1, {30, 13, 0, 0, 0}},
-    {BYTES(OF_NODE("\x0A\x01\x61\x12\x01\x61")), BYTES(L), 2, {30, 13, 0, 0, 0}},
-    {BYTES(OF_NODE("\x12\x01\x61\x12\x01\x61")), BYTES(L), 0, {40, 13, 0, 0, 0}},
-    {BYTES(OF_NODE("\x12\x01\x61\x12\x01\x61")), BYTES(L), 1, {40, 13, 0, 0, 0}},
-    {BYTES(OF_NODE("\x12\x01\x61\x12\x01\x61")), BYTES(L), 2, {23, 16, 0, 0, 13}},
-    {BYTES(OF_NODE("\x12\x01\x61\x12\x01\x61")), BYTES(L), 9, {23, 16, 0, 0, 13}},
+    {NULL, 0, BYTES(L), 0, {10, 0, 0, 0, 0, 0}},
+    {BYTES("\x08"), BYTES(L), 0, {1, 0, 0, 0, 0, 0}},
+    {BYTES("\x00"), BYTES(L), 0, {3, 0, 0, 0, 0, 0}},
+    {BYTES("\x0A"), BYTES(L), 0, {4, 0, 0, 0, 0, 0}},
+    {BYTES("\x08\x08\x08\x08"), BYTES(L), 0, {5, 2, 0, 0, 0, 0}},
+    {BYTES("\x08" NINE "\x01"), BYTES(L), 0, {10, 0, 0, 0, 0, 0}},
+    {BYTES("\x08" NINE "\x02"), BYTES(L), 0, {2, 0, 0, 0, 0, 0}},
+    {BYTES(M0), BYTES(L), 0, {0, 0, 0, 0, 0, 0}},
+    {BYTES(M1), BYTES(L), 2, {0, 0, 1, 1, 0, 0}},
+    {BYTES(M1), BYTES(L), 3, {0, 0, 1, 1, 0, 0}},
+    {BYTES(M1), BYTES(L), 8, {0, 0, 1, 1, 0, 0}},
+    {BYTES(M1), BYTES(L), 9, {0, 0, 1, 1, 0, 0}},
+    {BYTES(M1), BYTES(L), 0, {40, 13, 0, 0, 0, 0}},
+    {BYTES(M1), BYTES(L), 1, {40, 13, 0, 0, 0, 0}},
+    {BYTES(OF_NODE("\x0A\x01\x61\x12\x01\x61")), BYTES(L), 0, {30, 13, 0, 0, 0, 0}},
+    {BYTES(OF_NODE("\x0A\x01\x61\x12\x01\x61")), BYTES(L), 1, {30, 13, 0, 0, 0, 0}},
+    {BYTES(OF_NODE("\x0A\x01\x61\x12\x01\x61")), BYTES(L), 2, {30, 13, 0, 0, 0, 0}},
+    {BYTES(OF_NODE("\x12\x01\x61\x12\x01\x61")), BYTES(L), 0, {40, 13, 0, 0, 0, 0}},
+    {BYTES(OF_NODE("\x12\x01\x61\x12\x01\x61")), BYTES(L), 1, {40, 13, 0, 0, 0, 0}},
+    {BYTES(OF_NODE("\x12\x01\x61\x12\x01\x61")), BYTES(L), 2, {23, 16, 0, 0, 13, 0}},
+    {BYTES(OF_NODE("\x12\x01\x61\x12\x01\x61")), BYTES(L), 9, {23, 16, 0, 0, 13, 0}},
     /* two names: the second takes the third cell and the fourth */
-    {BYTES(OF_NODE("\x12\x01\x61\x12\x01\x62")), BYTES(L), 4, {0, 0, 1, 2, 0}},
-    {BYTES(OF_NODE("\x12\x01\x61\x12\x01\x62")), BYTES(L), 5, {0, 0, 1, 2, 0}},
-    {BYTES(OF_NODE("\x12\x01\x61\x12\x01\x62")), BYTES(L), 3, {40, 16, 0, 0, 0}},
-    {BYTES(OF_NODE("\x12\x01\x61\x12\x01\x62")), BYTES(L), 2, {40, 16, 0, 0, 0}},
-    {BYTES(OF_NODE("\x12\x01\x61\x12\x01\x62")), BYTES(L), 1, {40, 13, 0, 0, 0}},
+    {BYTES(OF_NODE("\x12\x01\x61\x12\x01\x62")), BYTES(L), 4, {0, 0, 1, 2, 0, 0}},
+    {BYTES(OF_NODE("\x12\x01\x61\x12\x01\x62")), BYTES(L), 5, {0, 0, 1, 2, 0, 0}},
+    {BYTES(OF_NODE("\x12\x01\x61\x12\x01\x62")), BYTES(L), 3, {40, 16, 0, 0, 0, 0}},
+    {BYTES(OF_NODE("\x12\x01\x61\x12\x01\x62")), BYTES(L), 2, {40, 16, 0, 0, 0, 0}},
+    {BYTES(OF_NODE("\x12\x01\x61\x12\x01\x62")), BYTES(L), 1, {40, 13, 0, 0, 0, 0}},
     /* a default adds no name; the second one shows the input, which may stand behind both */
-    {BYTES(OF_GRAPH("\x17", INPUT TENSOR)), BYTES(L), 2, {0, 0, 0, 1, 0}},
-    {BYTES(OF_GRAPH("\x1E", INPUT TENSOR TENSOR)), BYTES(L), 2, {23, 33, 0, 0, 13}},
-    {BYTES(OF_GRAPH("\x1E", TENSOR INPUT TENSOR)), BYTES(L), 3, {23, 33, 0, 0, 20}},
-    {BYTES(OF_GRAPH("\x1E", TENSOR TENSOR INPUT)), BYTES(L), 2, {23, 20, 0, 0, 27}},
-    {BYTES(OF_GRAPH("\x11", TENSOR TENSOR)), BYTES(L), 2, {23, 20, 0, 0, 13}},
-    {BYTES(OF_GRAPH("\x12", WRITES("w") TENSOR)), BYTES(L), 2, {23, 13, 0, 0, 21}},
+    {BYTES(OF_GRAPH("\x17", INPUT("w") TENSOR("w"))), BYTES(L), 2, {0, 0, 0, 1, 0, 0}},
+    {BYTES(OF_GRAPH("\x1E", INPUT("w") TENSOR("w") TENSOR("w"))), BYTES(L), 2, {23, 33, 0, 0, 13, 0}},
+    {BYTES(OF_GRAPH("\x1E", TENSOR("w") INPUT("w") TENSOR("w"))), BYTES(L), 3, {23, 33, 0, 0, 20, 0}},
+    {BYTES(OF_GRAPH("\x1E", TENSOR("w") TENSOR("w") INPUT("w"))), BYTES(L), 2, {23, 20, 0, 0, 27, 0}},
+    {BYTES(OF_GRAPH("\x11", TENSOR("w") TENSOR("w"))), BYTES(L), 2, {23, 20, 0, 0, 13, 0}},
+    {BYTES(OF_GRAPH("\x12", WRITES("w") TENSOR("w"))), BYTES(L), 2, {23, 13, 0, 0, 21, 0}},
     /* behind a body its names have vanished; in it those before it are visible */
-    {BYTES(OF_GRAPH("\x28", WITH_BODY WRITES("b"))), BYTES(L), 4, {0, 0, 3, 2, 0}},
-    {BYTES(OF_GRAPH("\x30", WITH_BODY WRITES("b") WRITES("b"))), BYTES(L), 4, {23, 50, 0, 0, 42}},
-    {BYTES(OF_GRAPH("\x30", WITH_BODY WRITES("b") WRITES("b"))), BYTES(L), 3, {40, 42, 0, 0, 0}},
-    {BYTES(OF_GRAPH("\x28", WRITES("b") WITH_BODY)), BYTES(L), 2, {23, 39, 0, 0, 13}},
-    {BYTES("\x08\x03\x42\x02\x10\x0D\x3A\x03\x12\x01\x67"), BYTES(L), 0, {10, 0, 0, 0, 0}},
-    {BYTES("\x08\x08\x42\x02\x10\x16\x3A\x03\x12\x01\x67"), BYTES(L), 0, {14, 2, 0, 0, 0}},
-    {BYTES(M0), BYTES("\x00\x00\x00\x01\x01"), 0, {14, 2, 0, 0, 0}},
-    {BYTES(M0), BYTES("\x00\x00\x00\x01\x02"), 0, {8, 0, 0, 0, 0}},
-    {BYTES(M0), NULL, 0, 3, {8, 0, 0, 0, 0}},
+    {BYTES(OF_GRAPH("\x28", WITH_BODY WRITES("b"))), BYTES(L), 4, {0, 0, 3, 2, 0, 0}},
+    {BYTES(OF_GRAPH("\x30", WITH_BODY WRITES("b") WRITES("b"))), BYTES(L), 4, {23, 50, 0, 0, 42, 0}},
+    {BYTES(OF_GRAPH("\x30", WITH_BODY WRITES("b") WRITES("b"))), BYTES(L), 3, {40, 42, 0, 0, 0, 0}},
+    {BYTES(OF_GRAPH("\x28", WRITES("b") WITH_BODY)), BYTES(L), 2, {23, 39, 0, 0, 13, 0}},
+    {BYTES("\x08\x03\x42\x02\x10\x0D\x3A\x03\x12\x01\x67"), BYTES(L), 0, {10, 0, 0, 0, 0, 0}},
+    {BYTES("\x08\x08\x42\x02\x10\x16\x3A\x03\x12\x01\x67"), BYTES(L), 0, {14, 2, 0, 0, 0, 0}},
+    {BYTES(M0), BYTES("\x00\x00\x00\x01\x01"), 0, {14, 2, 0, 0, 0, 0}},
+    {BYTES(M0), BYTES("\x00\x00\x00\x01\x02"), 0, {8, 0, 0, 0, 0, 0}},
+    {BYTES(M0), NULL, 0, 3, {8, 0, 0, 0, 0, 0}},
     /* padded: a tag, a value, a length, and a value inside a message; then of a field that no row names, beside its shortest form */
-    {BYTES("\x88\x00\x08\x42\x02\x10\x0D" GRAPH), BYTES(L), 0, {9, 0, 0, 0, 0}},
-    {BYTES("\x08\x88\x00\x42\x02\x10\x0D" GRAPH), BYTES(L), 0, {9, 0, 0, 0, 0}},
-    {BYTES("\x08\x08\x42\x82\x00\x10\x0D" GRAPH), BYTES(L), 0, {9, 2, 0, 0, 0}},
-    {BYTES("\x08\x08\x42\x03\x10\x8D\x00" GRAPH), BYTES(L), 0, {9, 4, 0, 0, 0}},
-    {BYTES(M0 "\x98\x86\x00\x01"), BYTES(L), 0, {9, 11, 0, 0, 0}},
-    {BYTES(M0 "\x98\x06\x81\x00"), BYTES(L), 0, {9, 11, 0, 0, 0}},
-    {BYTES(M0 "\x98\x06\x01"), BYTES(L), 0, {0, 0, 0, 0, 0}},
-    {BYTES(M0 "\x9A\x06\x81\x00\x00"), BYTES(L), 0, {9, 11, 0, 0, 0}},
-    {BYTES(M0 "\x9A\x06\x01\x00"), BYTES(L), 0, {0, 0, 0, 0, 0}},
-    {BYTES(M0 "\x98\x06" NINE "\x00"), BYTES(L), 0, {9, 11, 0, 0, 0}},
-    {BYTES(M0 "\x98\x06" NINE "\x01"), BYTES(L), 0, {0, 0, 0, 0, 0}},
+    {BYTES("\x88\x00\x08\x42\x02\x10\x0D" GRAPH), BYTES(L), 0, {9, 0, 0, 0, 0, 0}},
+    {BYTES("\x08\x88\x00\x42\x02\x10\x0D" GRAPH), BYTES(L), 0, {9, 0, 0, 0, 0, 0}},
+    {BYTES("\x08\x08\x42\x82\x00\x10\x0D" GRAPH), BYTES(L), 0, {9, 2, 0, 0, 0, 0}},
+    {BYTES("\x08\x08\x42\x03\x10\x8D\x00" GRAPH), BYTES(L), 0, {9, 4, 0, 0, 0, 0}},
+    {BYTES(M0 "\x98\x86\x00\x01"), BYTES(L), 0, {9, 11, 0, 0, 0, 0}},
+    {BYTES(M0 "\x98\x06\x81\x00"), BYTES(L), 0, {9, 11, 0, 0, 0, 0}},
+    {BYTES(M0 "\x98\x06\x01"), BYTES(L), 0, {0, 0, 0, 0, 0, 0}},
+    {BYTES(M0 "\x9A\x06\x81\x00\x00"), BYTES(L), 0, {9, 11, 0, 0, 0, 0}},
+    {BYTES(M0 "\x9A\x06\x01\x00"), BYTES(L), 0, {0, 0, 0, 0, 0, 0}},
+    {BYTES(M0 "\x98\x06" NINE "\x00"), BYTES(L), 0, {9, 11, 0, 0, 0, 0}},
+    {BYTES(M0 "\x98\x06" NINE "\x01"), BYTES(L), 0, {0, 0, 0, 0, 0, 0}},
     /* with another fault: 2 before 9; of a tag 9 before 3, 4 and 5, but 4 and 5 before the value's 9; 9 before the 1 of an extent */
-    {BYTES("\x88" NINE "\x02"), BYTES(L), 0, {2, 0, 0, 0, 0}},
-    {BYTES("\x80\x00\x00"), BYTES(L), 0, {9, 0, 0, 0, 0}},
-    {BYTES("\x8A\x00\x00"), BYTES(L), 0, {9, 0, 0, 0, 0}},
-    {BYTES("\x0A\x80\x00"), BYTES(L), 0, {4, 0, 0, 0, 0}},
-    {BYTES("\x08\x08\x88\x00\x08"), BYTES(L), 0, {9, 2, 0, 0, 0}},
-    {BYTES("\x08\x08\x08\x88\x00"), BYTES(L), 0, {5, 2, 0, 0, 0}},
-    {BYTES("\x3A\x81\x00"), BYTES(L), 0, {9, 0, 0, 0, 0}},
-    {BYTES("\x3A\x01"), BYTES(L), 0, {1, 0, 0, 0, 0}},
+    {BYTES("\x88" NINE "\x02"), BYTES(L), 0, {2, 0, 0, 0, 0, 0}},
+    {BYTES("\x80\x00\x00"), BYTES(L), 0, {9, 0, 0, 0, 0, 0}},
+    {BYTES("\x8A\x00\x00"), BYTES(L), 0, {9, 0, 0, 0, 0, 0}},
+    {BYTES("\x0A\x80\x00"), BYTES(L), 0, {4, 0, 0, 0, 0, 0}},
+    {BYTES("\x08\x08\x88\x00\x08"), BYTES(L), 0, {9, 2, 0, 0, 0, 0}},
+    {BYTES("\x08\x08\x08\x88\x00"), BYTES(L), 0, {5, 2, 0, 0, 0, 0}},
+    {BYTES("\x3A\x81\x00"), BYTES(L), 0, {9, 0, 0, 0, 0, 0}},
+    {BYTES("\x3A\x01"), BYTES(L), 0, {1, 0, 0, 0, 0, 0}},
     /* padded ints of an attribute: packed ones are not opened */
-    {BYTES(INTS("\x17", "\x12", "\x0A", "\x42\x02\x81\x00")), BYTES(L), 2, {0, 0, 1, 1, 0}},
-    {BYTES(INTS("\x16", "\x11", "\x09", "\x40\x81\x00")), BYTES(L), 1, {9, 27, 0, 0, 0}},
+    {BYTES(INTS("\x17", "\x12", "\x0A", "\x42\x02\x81\x00")), BYTES(L), 2, {0, 0, 1, 1, 0, 0}},
+    {BYTES(INTS("\x16", "\x11", "\x09", "\x40\x81\x00")), BYTES(L), 1, {9, 27, 0, 0, 0, 0}},
+    /* no identifiers: a graph's name, an output, one and a read of it, an input and its default, two in a body, a dim_param */
+    {BYTES("\x08\x08\x42\x02\x10\x0D\x3A\x03\x12\x01/"), BYTES(L), 0, {0, 0, 0, 0, 0, 1}},
+    {BYTES(OF_GRAPH("\x0B", WRITES("9"))), BYTES(L), 2, {0, 0, 1, 1, 0, 1}},
+    {BYTES(OF_GRAPH("\x16", WRITES("/") READS("/"))), BYTES(L), 4, {0, 0, 2, 2, 0, 2}},
+    {BYTES(OF_GRAPH("\x17", INPUT("/") TENSOR("/"))), BYTES(L), 2, {0, 0, 0, 1, 0, 2}},
+    {BYTES(OF_GRAPH("\x20", BODY("/", "-"))), BYTES(L), 2, {0, 0, 2, 1, 0, 2}},
+    {BYTES(OF_GRAPH("\x15", DIM("\x10", "\x0B", "\x09", "\x05", "\x03", "\x01-"))), BYTES(L), 2, {0, 0, 0, 1, 0, 1}},
+    {BYTES(OF_GRAPH("\x14", DIM("\x0F", "\x0A", "\x08", "\x04", "\x02", "\x00"))), BYTES(L), 2, {21, 26, 0, 0, 0, 0}},
+    /* UTF-8: zero and the last character. Not: a lone tail, a longer form, a surrogate, a tail too few, above the last character */
+    {BYTES(OF_GRAPH("\x0B", WRITES("\x00"))), BYTES(L), 2, {0, 0, 1, 1, 0, 1}},
+    {BYTES(OF_GRAPH("\x0E", "\x0A\x09\x12\x04\xF4\x8F\xBF\xBF\x22\x01\x58")), BYTES(L), 2, {0, 0, 1, 1, 0, 1}},
+    {BYTES(OF_GRAPH("\x0B", WRITES("\x80"))), BYTES(L), 2, {21, 13, 0, 0, 0, 0}},
+    {BYTES(OF_GRAPH("\x0C", "\x0A\x07\x12\x02\xC0\xAF\x22\x01\x58")), BYTES(L), 2, {21, 13, 0, 0, 0, 0}},
+    {BYTES(OF_GRAPH("\x0D", "\x0A\x08\x12\x03\xED\xA0\x80\x22\x01\x58")), BYTES(L), 2, {21, 13, 0, 0, 0, 0}},
+    {BYTES(OF_GRAPH("\x0C", "\x0A\x07\x12\x02\xE2\x82\x22\x01\x58")), BYTES(L), 2, {21, 13, 0, 0, 0, 0}},
+    {BYTES(OF_GRAPH("\x0E", "\x0A\x09\x12\x04\xF4\x90\x80\x80\x22\x01\x58")), BYTES(L), 2, {21, 13, 0, 0, 0, 0}},
 };
 
 /* The largest size: an initializer first, whose lengths end in these bytes, and last in the graph and in the model what is given. */
@@ -109,7 +131,6 @@ static const struct sample {
 #define FILLED(tensor, contents)                                                                                                   \
     "\x08\x08\x42\x02\x10\x0D\x3A\xF3\xFF\xFF\xFF\x07\x12\x01\x67\x2A" tensor "\xFF\xFF\xFF\x07"                                     \
     "\x42\x01\x77\x10\x01\x4A" contents "\xFF\xFF\xFF\x07"
-#define READS(name) "\x0A\x09\x0A\x01" name "\x12\x01\x62\x22\x01\x58"
 
 static const struct large {
     size_t length;
@@ -120,14 +141,14 @@ static const struct large {
     size_t cells;
     struct onnx_gate_answer answer;
 } larges[] = {
-    {MOST, BYTES(""), BYTES(""), 0, {3, 0, 0, 0, 0}},
-    {MOST + UINT64_C(1), BYTES(""), BYTES(""), 0, {7, 0, 0, 0, 0}},
-    {sizeof M1 - 1 + (UINT64_C(1) << 32), BYTES(M1), BYTES(""), 1, {7, 0, 0, 0, 0}}, /* in 32 bits its length is that of M1 */
-    {MOST, BYTES(FILLED("\xE2", "\xD7")), BYTES(WRITES("a")), 4, {0, 0, 1, 2, 0}},
-    {MOST, BYTES(FILLED("\xE2", "\xD7")), BYTES(WRITES("a")), 3, {40, MOST - 6, 0, 0, 0}},
-    {MOST, BYTES(FILLED("\xE2", "\xD7")), BYTES(WRITES("w")), 2, {23, MOST - 6, 0, 0, 21}},
-    {MOST, BYTES(FILLED("\xDF", "\xD4")), BYTES(READS("w")), 4, {0, 0, 1, 2, 0}},
-    {MOST, BYTES(FILLED("\xDF", "\xD4")), BYTES(READS("q")), 4, {30, MOST - 9, 0, 0, 0}},
+    {MOST, BYTES(""), BYTES(""), 0, {3, 0, 0, 0, 0, 0}},
+    {MOST + UINT64_C(1), BYTES(""), BYTES(""), 0, {7, 0, 0, 0, 0, 0}},
+    {sizeof M1 - 1 + (UINT64_C(1) << 32), BYTES(M1), BYTES(""), 1, {7, 0, 0, 0, 0, 0}}, /* in 32 bits its length is that of M1 */
+    {MOST, BYTES(FILLED("\xE2", "\xD7")), BYTES(WRITES("a")), 4, {0, 0, 1, 2, 0, 0}},
+    {MOST, BYTES(FILLED("\xE2", "\xD7")), BYTES(WRITES("a")), 3, {40, MOST - 6, 0, 0, 0, 0}},
+    {MOST, BYTES(FILLED("\xE2", "\xD7")), BYTES(WRITES("w")), 2, {23, MOST - 6, 0, 0, 21, 0}},
+    {MOST, BYTES(FILLED("\xDF", "\xD4")), BYTES(READS("w")), 4, {0, 0, 1, 2, 0, 0}},
+    {MOST, BYTES(FILLED("\xDF", "\xD4")), BYTES(READS("q")), 4, {30, MOST - 9, 0, 0, 0, 0}},
 };
 
 static const struct {
@@ -146,7 +167,8 @@ static const struct {
 
 static int is(struct onnx_gate_answer a, struct onnx_gate_answer b)
 {
-    return a.refusal == b.refusal && a.place == b.place && a.nodes == b.nodes && a.names == b.names && a.first == b.first;
+    return a.refusal == b.refusal && a.place == b.place && a.nodes == b.nodes && a.names == b.names && a.first == b.first &&
+           a.odd == b.odd;
 }
 
 #define GARBAGE 0xA5A5A5A5u
@@ -194,7 +216,7 @@ static void check_sample(const struct sample *s, size_t which)
 
 static void check_indexed(const struct sample *s, size_t which, size_t extra, uint64_t seed)
 {
-    struct onnx_gate_answer too_few = {ONNX_GATE_TOO_FEW_EXTRA, 0, 0, 0, 0};
+    struct onnx_gate_answer too_few = {ONNX_GATE_TOO_FEW_EXTRA, 0, 0, 0, 0, 0};
     struct lent lent;
     fill(&lent);
     expect(is(indexed(s, &lent, extra, seed), extra < 4 * s->cells ? too_few : s->answer), "indexed sample", which);

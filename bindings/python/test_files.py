@@ -83,7 +83,7 @@ class Command(InFolder):
         self.assertEqual(self.command(*(str(EXAMPLES / name) for name in names)), (1, lines, ""))
 
     def test_status(self):
-        accepted, refused = f"{SOUND}: accepted nodes 9 names 13\n", f"{EXAMPLES}/11-no-graph.onnx: refused 11 at 0\n"
+        accepted, refused = f"{SOUND}: accepted nodes 9 names 13 odd 0\n", f"{EXAMPLES}/11-no-graph.onnx: refused 11 at 0\n"
         self.assertEqual(self.command(str(SOUND)), (0, accepted, ""))
         self.assertEqual(self.command(f"{EXAMPLES}/11-no-graph.onnx", str(SOUND)), (1, refused + accepted, ""))
         self.assertEqual(self.command("no", str(SOUND)), (2, accepted, "onnx_gate: no: No such file or directory\n"))
@@ -97,15 +97,15 @@ class Command(InFolder):
         for name in "-h", "--help", "--", "-", "-v":
             self.assertEqual(self.command(name), (2, "", f"onnx_gate: {name}: No such file or directory\n"))
             shutil.copy(SOUND, self.folder / name)
-            self.assertEqual(self.command(name), (0, f"{name}: accepted nodes 9 names 13\n", ""))
+            self.assertEqual(self.command(name), (0, f"{name}: accepted nodes 9 names 13 odd 0\n", ""))
 
     def test_nothing_raw_is_printed(self):
         for raw, shown in (b"a\x1b[2J", "a\\x1b[2J"), (b"a\nb", "a\\nb"), (b"\xff", "\\udcff"), ("\u202e".encode(), "\\u202e"):
             self.assertEqual(self.command(os.fsdecode(raw))[1:], ("", f"onnx_gate: {shown}: No such file or directory\n"))
             shutil.copy(SOUND, os.fsencode(self.folder) + b"/" + raw)
-            self.assertEqual(self.command(os.fsdecode(raw))[:2], (0, f"{shown}: accepted nodes 9 names 13\n"))
+            self.assertEqual(self.command(os.fsdecode(raw))[:2], (0, f"{shown}: accepted nodes 9 names 13 odd 0\n"))
         shutil.copy(SOUND, self.folder / "é")
-        self.assertEqual(self.command("é", PYTHONIOENCODING="ascii")[1], "\\xe9: accepted nodes 9 names 13\n")
+        self.assertEqual(self.command("é", PYTHONIOENCODING="ascii")[1], "\\xe9: accepted nodes 9 names 13 odd 0\n")
 
 
 class Library(InFolder):
@@ -135,7 +135,7 @@ class Installation(InFolder):
         installed = {path.name for path in (self.folder / "site/onnx_gate").iterdir()}
         self.assertLessEqual({"py.typed", "libonnx_gate.so", "__main__.py"}, installed)
         ran = self.python("-m", "onnx_gate", str(SOUND), path=self.folder / "site")
-        self.assertEqual(ran.stdout, f"{SOUND}: accepted nodes 9 names 13\n")
+        self.assertEqual(ran.stdout, f"{SOUND}: accepted nodes 9 names 13 odd 0\n")
 
     def test_not_installed_where_it_cannot_be_built(self):
         copy = self.folder / "repository/bindings/python"

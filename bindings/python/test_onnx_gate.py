@@ -19,7 +19,7 @@ class Samples(unittest.TestCase):
         self.assertEqual(self.line(b"", 0), "refused 10 at 0")
         self.assertEqual(self.line(b"\x08\x08\x08\x08", 0), "refused 5 at 2")
         for cells in 2, 3, 9, None:
-            self.assertEqual(self.line(M1, cells), "accepted nodes 1 names 1")
+            self.assertEqual(self.line(M1, cells), "accepted nodes 1 names 1 odd 0")
             self.assertEqual(self.line(TWICE, cells), "refused 23 at 16 first 13")
         for cells in 0, 1:
             self.assertEqual(self.line(M1, cells), "refused 40 at 13")
@@ -27,9 +27,9 @@ class Samples(unittest.TestCase):
             self.assertEqual(self.line(READER, cells), "refused 30 at 13")
 
     def test_both_definitions(self):
-        self.assertEqual(onnx_gate.check(TWICE, LIST), onnx_gate.Answer(23, 16, 0, 0, 13))
-        self.assertEqual(repr(onnx_gate.check(TWICE, LIST)), "Answer(refusal=23, place=16, nodes=0, names=0, first=13)")
-        self.assertEqual(onnx_gate.check(READER, LIST), onnx_gate.Answer(30, 13, 0, 0, 0))
+        self.assertEqual(onnx_gate.check(TWICE, LIST), onnx_gate.Answer(23, 16, 0, 0, 13, 0))
+        self.assertEqual(repr(onnx_gate.check(TWICE, LIST)), "Answer(refusal=23, place=16, nodes=0, names=0, first=13, odd=0)")
+        self.assertEqual(onnx_gate.check(READER, LIST), onnx_gate.Answer(30, 13, 0, 0, 0, 0))
         head, default = "0808 4202100D 3A1E 120167", "2A05 420177 1001"
         entry = "5A0B 0A0177 1206 0A04 0801 1200"
         for fields, answer in (
@@ -41,7 +41,26 @@ class Samples(unittest.TestCase):
             self.assertEqual(str(onnx_gate.check(model, LIST)), answer)
             for cells in 2, 3, 9:
                 self.assertEqual(str(onnx_gate.check(model, LIST, cells, 4 * cells, 7)), answer)
-        self.assertEqual(self.line(bytes.fromhex("0808 4202100D 3A17 120167" + default + entry), 2), "accepted nodes 0 names 1")
+        self.assertEqual(self.line(bytes.fromhex("0808 4202100D 3A17 120167" + default + entry), 2), "accepted nodes 0 names 1 odd 0")
+
+    def test_odd_names(self):
+        """Names that are no identifiers are counted where they stand, and only bytes that are no UTF-8 are refused."""
+        for output, answer in (
+            ("5F", "accepted nodes 1 names 1 odd 0"),
+            ("2F", "accepted nodes 1 names 1 odd 1"),
+            ("39", "accepted nodes 1 names 1 odd 1"),
+            ("00", "accepted nodes 1 names 1 odd 1"),
+            ("80", "refused 21 at 13"),
+            ("C3", "refused 21 at 13"),
+            ("FF", "refused 21 at 13"),
+        ):
+            self.assertEqual(self.line(bytes.fromhex(f"0808 4202100D 3A0B 120167 0A06 1201 {output} 220158"), 2), answer)
+        reading = bytes.fromhex("0808 4202100D 3A15 120167 0A06 12012F 220158 0A08 0A012F 1200 220158")
+        self.assertEqual(onnx_gate.check(reading, LIST), onnx_gate.Answer(0, 0, 2, 1, 0, 2))
+        empty_dim = bytes.fromhex("0808 4202100D 3A14 120167 5A0F 0A0177 120A 0A08 0801 1204 0A02 1200")
+        refused = onnx_gate.check(empty_dim, LIST)
+        self.assertEqual((str(refused), refused.rule), ("refused 21 at 26", "not-utf8"))
+        self.assertEqual(refused.explanation, "not well-formed UTF-8, or an empty dim_param")
 
     def test_padded_varints(self):
         """A tag, a value and a length, in what is opened and of fields that no row names; beside each its shortest form."""
@@ -57,9 +76,9 @@ class Samples(unittest.TestCase):
             answer = onnx_gate.check(bytes.fromhex(padded), LIST)
             self.assertEqual((str(answer), answer.rule), (f"refused 9 at {place}", "padded"), padded)
             self.assertIn("a varint of more than one byte that ends in 0", answer.explanation)
-            self.assertEqual(self.line(bytes.fromhex(shortest), 0), "accepted nodes 0 names 0")
+            self.assertEqual(self.line(bytes.fromhex(shortest), 0), "accepted nodes 0 names 0 odd 0")
         longest = bytes.fromhex("0808 4202100D 3A03120167 9806") + 9 * b"\xff"
-        self.assertEqual(self.line(longest + b"\x01", 0), "accepted nodes 0 names 0")
+        self.assertEqual(self.line(longest + b"\x01", 0), "accepted nodes 0 names 0 odd 0")
         self.assertEqual(self.line(longest + b"\x00", 0), "refused 9 at 11")
 
     def test_answers(self):
@@ -76,10 +95,10 @@ class Samples(unittest.TestCase):
 
     def test_extra_cells_and_seeds(self):
         for seed in 0, 1, 2**64 - 1:
-            self.assertEqual(str(onnx_gate.check(M1, LIST, seed=seed)), "accepted nodes 1 names 1")
+            self.assertEqual(str(onnx_gate.check(M1, LIST, seed=seed)), "accepted nodes 1 names 1 odd 0")
             for cells in 2, 3, 9:
                 lines = [str(onnx_gate.check(M1, LIST, cells, 4 * cells + more, seed)) for more in (-1, 0, 1, 500)]
-                self.assertEqual(lines, ["refused 65 at 0"] + 3 * ["accepted nodes 1 names 1"])
+                self.assertEqual(lines, ["refused 65 at 0"] + 3 * ["accepted nodes 1 names 1 odd 0"])
         for cells in 0, 1:
             self.assertEqual(str(onnx_gate.check(M1, LIST, cells, 4 * cells)), "refused 40 at 13")
         self.assertEqual(onnx_gate.check(M1, LIST, 1, 0).rule, "too-few-extra")

@@ -65,11 +65,11 @@ class Sizes(unittest.TestCase):
     def test_as_many_as_are_counted(self):
         for doc_string in 0, 5_000_000:
             model = outputs(5000, doc_string)
-            self.assertEqual(lent(model), ("accepted nodes 1 names 5000", [(10_000, 40_000)]))
+            self.assertEqual(lent(model), ("accepted nodes 1 names 5000 odd 0", [(10_000, 40_000)]))
             self.assertEqual(lent(model, cells=9999), (full(model, 4999), [(9999, 39_996)]))
             self.assertEqual(lent(model, cells=9998), (full(model, 4999), [(9998, 39_992)]))
             self.assertEqual(lent(model, cells=1), (full(model, 0), [(1, 4)]))
-        self.assertEqual(lent(tensors(100)), ("accepted nodes 0 names 100", [(200, 400 + 2 + 400)]))
+        self.assertEqual(lent(tensors(100)), ("accepted nodes 0 names 100 odd 0", [(200, 400 + 2 + 400)]))
         self.assertEqual(lent(b""), ("refused 10 at 0", [(0, 2)]))
 
     def test_extra_cells(self):
@@ -80,7 +80,7 @@ class Sizes(unittest.TestCase):
     def test_more_after_a_40(self):
         model = outputs(600_000)
         answer, cells = lent(model)
-        self.assertEqual(answer, "accepted nodes 1 names 600000")
+        self.assertEqual(answer, "accepted nodes 1 names 600000 odd 0")
         self.assertEqual(cells, [(count, 4 * count) for count in (131_072, 1_048_576, 1_200_000)])
         answer, cells = lent(model, cells=200_001)
         self.assertEqual((answer, [count for count, _ in cells]), (full(model, 100_000), [131_072, 200_001]))
@@ -91,7 +91,7 @@ class Sizes(unittest.TestCase):
         for names, tries in (0, [0, most]), (60_000, [120_000, most]), (69_999, [131_072, 139_998, most]):
             with mock.patch.object(_library, "needed", return_value=_library.Need(names, 0)):
                 answer, cells = lent(model)
-            self.assertEqual((answer, [count for count, _ in cells]), ("accepted nodes 1 names 70000", tries))
+            self.assertEqual((answer, [count for count, _ in cells]), ("accepted nodes 1 names 70000 odd 0", tries))
 
     def test_claims(self):
         """A file that claims many names and is refused at the first gets room for few."""
@@ -140,7 +140,7 @@ class Mapped(unittest.TestCase):
         with mock.patch.object(_library, "_FEW", 0):
             for count in 1, 100, 5000:
                 model = outputs(count)
-                self.assertEqual(str(onnx_gate.check(model, LIST)), f"accepted nodes 1 names {count}")
+                self.assertEqual(str(onnx_gate.check(model, LIST)), f"accepted nodes 1 names {count} odd 0")
                 for cells in 2 * count - 1, 2 * count - 2:
                     self.assertEqual(str(onnx_gate.check(model, LIST, cells)), full(model, count - 1))
             self.assertEqual(str(onnx_gate.check(outputs(3), LIST, 6, 23)), "refused 65 at 0")
@@ -199,7 +199,7 @@ class Files(unittest.TestCase):
         for size in 0, 1, 100:
             with mock.patch.object(os, "fstat", return_value=mock.Mock(st_size=size)):
                 checked = onnx_gate.check_file(self.path, LIST)
-            self.assertEqual((str(checked), checked.model), ("accepted nodes 1 names 500", outputs(500)))
+            self.assertEqual((str(checked), checked.model), ("accepted nodes 1 names 500 odd 0", outputs(500)))
 
     def test_a_file_that_changes_afterwards(self):
         self.path.write_bytes(outputs(500))
@@ -241,7 +241,7 @@ class Memory(unittest.TestCase):
 
     def test_files(self):
         """A file is in memory once, from a pipe too, and one that is too long not at all."""
-        model, sound = graph(part(5, b"\x42\x01w\x10\x01" + part(9, bytes(100_000_000)))), "accepted nodes 0 names 1"
+        model, sound = graph(part(5, b"\x42\x01w\x10\x01" + part(9, bytes(100_000_000)))), "accepted nodes 0 names 1 odd 0"
         with tempfile.TemporaryDirectory() as folder:
             path = Path(folder) / "model.onnx"
             path.write_bytes(model)

@@ -13,7 +13,7 @@ import onnx_gate
 
 LIST = onnx_gate.operators([("", 7, 21)])
 M1 = bytes.fromhex("0808 4202100D 3A0B 120167 0A06 120161 220158")
-ACCEPTED = onnx_gate.Answer(0, 0, 1, 1, 0)
+ACCEPTED = onnx_gate.Answer(0, 0, 1, 1, 0, 0)
 
 
 def liar(length):

@@ -2,6 +2,7 @@
 mod values;
 mod words;
 
+use crate::output::Form;
 use crate::{help, text};
 use onnx_gate::operators::{self, ListFault};
 use std::ffi::{OsStr, OsString};
@@ -30,8 +31,7 @@ pub enum Command {
 #[derive(Debug, PartialEq, Eq)]
 pub struct Check {
     pub terms: Terms,
-    pub json: bool,
-    pub quiet: bool,
+    pub form: Form,
     pub models: Vec<OsString>,
 }
 
@@ -56,7 +56,7 @@ pub enum Operators {
 }
 
 const CHECK: Grammar = Grammar {
-    options: &["--operators", "--allow", "--cells", "--seed", "--json", "-q", "--quiet"],
+    options: &["--operators", "--allow", "--cells", "--seed", "--odd", "--json", "-q", "--quiet"],
     models: true,
     help: help::CHECK,
     made: check,
@@ -90,14 +90,19 @@ fn check(mut w: Words) -> Result<Command, String> {
     if w.rest.is_empty() {
         return Err("which model? Usage: onnx-gate check [OPTIONS] MODEL...".into());
     }
-    if w.json && w.quiet {
+    if w.form.json && w.form.quiet {
         return Err("--json and --quiet exclude each other: with --json there is a line for each file".into());
+    }
+    if w.form.odd && w.form.quiet {
+        return Err(
+            "--odd and --quiet exclude each other: names are listed under the lines that --quiet leaves out".into()
+        );
     }
     let models = std::mem::take(&mut w.rest);
     if models.iter().chain(&w.operators).filter(|word| *word == "-").count() > 1 {
         return Err("standard input can be read once, and is named again".into());
     }
-    Ok(Command::Check(Check { json: w.json, quiet: w.quiet, models, terms: terms(w)? }))
+    Ok(Command::Check(Check { form: w.form, models, terms: terms(w)? }))
 }
 
 fn pass(mut w: Words) -> Result<Command, String> {

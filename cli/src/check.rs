@@ -8,7 +8,7 @@ use std::io::{self, IsTerminal, Write};
 
 /// Judges every file and gives the exit status: not judged before refused before accepted.
 pub fn run(check: &Check) -> io::Result<u8> {
-    let mut output = Output::new(output::standard()?, check.json, check.quiet);
+    let mut output = Output::new(output::standard()?, check.form);
     let judge = match Judge::new(&check.terms) {
         Ok(judge) => judge,
         Err(why) => return without_list(check, &why, &mut output),
@@ -30,7 +30,7 @@ pub fn run(check: &Check) -> io::Result<u8> {
 
 /// No model is judged then, and with --json there is a line for each all the same.
 fn without_list(check: &Check, why: &str, output: &mut Output) -> io::Result<u8> {
-    if !check.json {
+    if !check.form.json {
         complain(why);
         return Ok(WRONG);
     }
@@ -49,7 +49,7 @@ fn one(judge: &Judge, found: &Found, progress: bool, output: &mut Output) -> io:
         Err(why) => return output.not_judged(file, &why),
     };
     match judged.answer {
-        Ok(accepted) => output.accepted(file, accepted),
+        Ok(accepted) => output.accepted(file, accepted, &judged.model),
         Err(refusal) => output.refused(file, refusal, &judge.given(&judged)),
     }
 }

@@ -36,8 +36,9 @@ pub struct Given<'a> {
     pub cells: usize,
 }
 
-/// More memory than any explanation takes: it shows names cut, and nothing in it grows with the model.
-const ROOM: usize = 4 << 20;
+/// More memory than any explanation takes, or a line of a list: they show names cut, and nothing in them grows with the
+/// model.
+pub const ROOM: usize = 4 << 20;
 
 /// What can be said about a refusal, or one line why nothing can.
 pub fn explain<'a>(given: &Given<'a>, refusal: Refusal) -> Explanation<'a> {
@@ -47,7 +48,7 @@ pub fn explain<'a>(given: &Given<'a>, refusal: Refusal) -> Explanation<'a> {
 
 /// What `find` finds. That no memory is left, or that it has a mistake, must cost neither this verdict nor the next. So
 /// memory is asked for before: an allocation that fails would end the process.
-fn guarded<T>(room: usize, find: impl FnOnce() -> T + UnwindSafe) -> Result<T, &'static str> {
+pub fn guarded<T>(room: usize, find: impl FnOnce() -> T + UnwindSafe) -> Result<T, &'static str> {
     let mut bytes = Vec::<u8>::new();
     let had = bytes.try_reserve_exact(room);
     // or the compiler would leave it out
@@ -121,7 +122,7 @@ fn tag_end(model: &[u8], place: usize) -> usize {
 #[cfg(test)]
 mod tests {
     use super::*;
-    use crate::samples::{bytes, Random};
+    use crate::samples::{bytes, part, Random};
 
     const READER: &str = "08 08 42 02 10 0D 3A 0E 12 01 67 0A 09 0A 01 61 12 01 61 22 01 58";
 
@@ -183,6 +184,47 @@ mod tests {
     }
 
     #[test]
+    fn what_is_not_text() {
+        for (hex, at, why) in [
+            ("80", 0, "a tail with no lead before it"),
+            ("61 C3 A9 BF", 3, "a tail with no lead before it"),
+            ("C3 A9 A9", 2, "a tail with no lead before it"),
+            ("C0 80", 0, "an overlong form"),
+            ("C1 BF", 0, "an overlong form"),
+            ("E0 9F BF", 0, "an overlong form"),
+            ("F0 8F BF BF", 0, "an overlong form"),
+            ("ED A0 80", 0, "a surrogate"),
+            ("2F ED BF BF", 1, "a surrogate"),
+            ("F4 90 80 80", 0, "above U+10FFFF"),
+            ("F5 80 80 80", 0, "above U+10FFFF"),
+            ("FD", 0, "above U+10FFFF"),
+            ("61 FF", 1, "a byte that no character has"),
+            ("61 62 C3", 2, "a character that is cut off"),
+            ("C3 28", 0, "a character that is cut off"),
+            ("E2 89", 0, "a character that is cut off"),
+            ("E0 A0", 0, "a character that is cut off"),
+            ("E0 2F", 0, "a character that is cut off"),
+            ("F0 90 80 2F", 0, "a character that is cut off"),
+        ] {
+            let model = part(7, &part(2, &bytes(hex)));
+            let e = explained(&model, 21, 2);
+            assert_eq!((e.path.as_deref(), e.name), (Some("graph > name"), Some(&model[4..])), "{hex}");
+            assert_eq!(e.notes, [format!("not UTF-8 at {}, offset {at} in the name: {why}", 4 + at)], "{hex}");
+        }
+        assert!(explained(&part(7, &part(2, "é".as_bytes())), 21, 2).notes.is_empty());
+    }
+
+    #[test]
+    fn an_empty_dim_param() {
+        let shape = part(2, &part(1, &part(2, b"")));
+        let input = part(11, &[part(1, b"x"), part(2, &part(1, &shape))].concat());
+        let model = part(7, &input);
+        let e = explained(&model, 21, model.len() - 2);
+        let path = r#"graph > input[0] "x" > type > tensor_type > shape > dim[0] > dim_param"#;
+        assert_eq!((e.path.as_deref(), e.notes), (Some(path), vec!["the dim_param is empty".into()]));
+    }
+
+    #[test]
     fn what_the_model_lacks() {
         assert_eq!(explained(&[], 10, 0).path.as_deref(), Some("model"));
         let model = bytes("42 02 10 0D");
@@ -239,7 +281,10 @@ mod tests {
                 let known = path.exact || path.unreadable || lacks_a_field(refusal.number, &path);
                 assert!(known, "{refusal} of {model:02x?}");
                 let notes = found(&Given { model: &model, operators: &list, cells: 16 }, refusal).notes;
-                assert!(!matches!(refusal.number, 9 | 23) || notes.len() == 1, "{refusal} of {model:02x?}: {notes:?}");
+                assert!(
+                    !matches!(refusal.number, 9 | 21 | 23) || notes.len() == 1,
+                    "{refusal} of {model:02x?}: {notes:?}"
+                );
                 let first = refusal.first.map(|first| path::find(&model, first));
                 assert!(first.is_none_or(|path| path.exact), "{refusal} of {model:02x?}");
             }

@@ -64,10 +64,17 @@ another name a pipe will do. At most 2,147,483,648 bytes of a file are read: a l
 judged where it lies, without a copy in memory, if it is your own and nobody writes to it; one that is written to
 meanwhile is judged as it was. More than one model, or a folder, ends with a line that counts the answers.
 
+An acceptance has three counts: the nodes of all graphs; the most names that are visible at once; and the odd names.
+These are not C identifiers (a letter or underscore, then letters, digits and underscores), as exporters write
+/encoder/MatMul, and need only be UTF-8. Of graphs, inputs, initializers, nodes, outputs, operators, attributes and
+dimension variables each field that holds such a name counts, uses too; domains do not.
+
 Options:
 ",
     terms!(),
-    "  -q, --quiet                no lines for models that are accepted, and no explanations
+    "      --odd                  under each model that is accepted its odd names with their paths, a line for each, in
+                             the order of the bytes
+  -q, --quiet                no lines for models that are accepted, and no explanations
       --json                 one JSON object on a line for each file, and no count
   -h, --help                 print this
   -V, --version              print the version
@@ -77,14 +84,16 @@ Options:
     "
 Text: only printable ASCII of names is printed as it is; the rest as \\u{e9}, or \\xff where it is not UTF-8.
 
-JSON: each object has the same keys, and null for what does not apply; notes is a list. accepted is true, false, or
-null where the file was not judged: error says why. place is the byte at which the field at fault begins; first, with
-23 alone, that of the definition which is already visible. file and name are text, in which U+FFFD stands for bytes
-that are not UTF-8; file_hex and name_hex are the same bytes in hex, exactly. At most 1024 bytes of a name are given;
-name_length says how many it has.
+JSON: each object has the same keys, and null for what does not apply; notes is a list, and so is odd_names with --odd
+where a model is accepted: each of them has a place, a path and a name. accepted is true, false, or null where the file
+was not judged: error says why, or what is wrong with odd_names. place is the byte at which the field begins that is at
+fault, or holds the odd name; first, with 23 alone, that of the definition which is already visible. file and name are
+text, in which U+FFFD stands for bytes that are not UTF-8; file_hex and name_hex are the same bytes in hex, exactly. At
+most 1024 bytes of a name are given; name_length says how many it has.
 
 Exit status: 0 every model was checked and accepted, 1 some are refused (an unsound list refuses every model), 2 bad
-usage, a file or folder that cannot be read or holds no model, or no memory for the names of a model.
+usage, a file or folder that cannot be read or holds no model, no memory for the names of a model, or a list of odd
+names that is not as long as the library's count: an error of this command, which is told. The verdicts stand.
 "
 );
 

@@ -11,6 +11,7 @@ mod judge;
 mod lists;
 mod mapped;
 mod notes;
+mod odd;
 mod output;
 mod pass;
 mod path;

@@ -26,6 +26,7 @@ pub fn of(given: &Given, refusal: Refusal, path: &Path, name: Option<&[u8]>) -> 
         5 => target.and_then(|t| earlier(given.model, t, |f| f.number == t.field.number)),
         9 => padded(given.model, refusal.place),
         10 => Some(value("ir_version", target.filter(|t| t.is(Kind::Model, 1)))),
+        21 => target.and_then(|t| not_text(given.model, t)),
         23 => refusal.first.map(|first| format!("defined first at {}", with_path(given.model, first))),
         29 | 31 => path.steps.iter().nth_back(1).and_then(|t| namesake(given.model, t)),
         13 | 14 => target.and_then(|t| import(given, refusal.number, t)),
@@ -78,6 +79,30 @@ fn earlier(model: &[u8], step: &Step, alike: impl Fn(&wire::Field) -> bool) -> O
 
 fn with_path(model: &[u8], place: usize) -> String {
     format!("{place}, {}", path::find(model, place).shown())
+}
+
+/// Where a name stops being UTF-8, and why.
+fn not_text(model: &[u8], target: &Step) -> Option<String> {
+    let value = target.field.value;
+    let held = model.get(value..target.field.end?)?;
+    if held.is_empty() && target.is(Kind::Dim, 2) {
+        return Some("the dim_param is empty".into());
+    }
+    let at = std::str::from_utf8(held).err()?.valid_up_to();
+    let why = malformed(held[at], held.get(at + 1).copied());
+    Some(format!("not UTF-8 at {}, offset {at} in the name: {why}", value + at))
+}
+
+/// Why no character of UTF-8 begins with these bytes, of which a name may have one. What follows them may be at fault.
+fn malformed(first: u8, next: Option<u8>) -> &'static str {
+    match (first, next) {
+        (0x80..=0xBF, _) => "a tail with no lead before it",
+        (0xC0 | 0xC1, _) | (0xE0, Some(0x80..=0x9F)) | (0xF0, Some(0x80..=0x8F)) => "an overlong form",
+        (0xED, Some(0xA0..=0xBF)) => "a surrogate",
+        (0xF4, Some(0x90..=0xBF)) | (0xF5..=0xFD, _) => "above U+10FFFF",
+        (0xFE | 0xFF, _) => "a byte that no character has",
+        _ => "a character that is cut off",
+    }
 }
 
 /// The earlier node or attribute that has the same name.

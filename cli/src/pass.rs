@@ -1,7 +1,7 @@
 //! `onnx-gate pass`: the bytes that were checked, for whoever would else read the file a second time.
 use crate::args::Pass;
 use crate::judge::Judge;
-use crate::output::{self, Output};
+use crate::output::{self, Form, Output};
 use crate::{complain, input, WRONG};
 use std::io::{self, IsTerminal, Write};
 
@@ -19,7 +19,7 @@ pub fn run(pass: &Pass) -> io::Result<u8> {
             return Ok(WRONG);
         }
     };
-    let mut verdict = Output::new(output::errors()?, false, false);
+    let mut verdict = Output::new(output::errors()?, Form::default());
     let file = pass.model.as_os_str();
     // a copy, whose bytes are there to be written however long the reader takes
     match input::copy(file).and_then(|model| judge.judge(file, model)) {
@@ -27,7 +27,7 @@ pub fn run(pass: &Pass) -> io::Result<u8> {
         Ok(judged) => match judged.answer {
             Err(refusal) => verdict.refused(file, refusal, &judge.given(&judged))?,
             Ok(accepted) => {
-                verdict.accepted(file, accepted)?;
+                verdict.accepted(file, accepted, &judged.model)?;
                 out.write_all(&judged.model)?;
             }
         },

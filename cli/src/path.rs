@@ -22,7 +22,18 @@ pub struct Step<'a> {
     op_type: Option<&'a [u8]>,
 }
 
-impl Step<'_> {
+impl<'a> Step<'a> {
+    /// A field of the message `model[from..within]`, before which so many of its number stand.
+    pub fn new(model: &'a [u8], of: Kind, (from, within): (usize, usize), field: Field, index: usize) -> Step<'a> {
+        let mut step = Step { of, from, within, field, index, label: None, op_type: None };
+        if let (Some((_, _, _, Holds::Message(kind))), 2, Some(stop)) = (step.row(), field.wire, field.end) {
+            let part = |number| wire::contents(model, field.value, stop, number);
+            step.label = kind.label().and_then(part);
+            step.op_type = Some(4).filter(|_| *kind == Kind::Node).and_then(part);
+        }
+        step
+    }
+
     pub fn row(&self) -> Option<&'static Row> {
         self.of.row(self.field.number)
     }
@@ -108,14 +119,7 @@ fn around(model: &[u8], at: usize, end: usize, place: usize) -> Option<Field> {
 
 fn step(model: &[u8], of: Kind, (at, end): (usize, usize), field: Field) -> Step<'_> {
     let before = wire::fields(model, at, end).take_while(|f| f.tag < field.tag);
-    let index = before.filter(|f| f.number == field.number).count();
-    let mut step = Step { of, from: at, within: end, field, index, label: None, op_type: None };
-    if let (Some((_, _, _, Holds::Message(kind))), 2, Some(stop)) = (step.row(), field.wire, field.end) {
-        let part = |number| wire::contents(model, field.value, stop, number);
-        step.label = kind.label().and_then(part);
-        step.op_type = Some(4).filter(|_| *kind == Kind::Node).and_then(part);
-    }
-    step
+    Step::new(model, of, (at, end), field, before.filter(|f| f.number == field.number).count())
 }
 
 #[cfg(test)]

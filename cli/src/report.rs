@@ -1,7 +1,9 @@
 //! A refusal as people read it.
 use crate::explain::{Explanation, Window};
+use crate::odd;
 use crate::text::{quoted, Paint};
-use onnx_gate::Refusal;
+use onnx_gate::{Accepted, Refusal};
+use std::io::{self, Write};
 
 /// The lines under that of the answer.
 pub fn lines(refusal: Refusal, e: &Explanation, paint: Paint) -> Vec<String> {
@@ -11,6 +13,13 @@ pub fn lines(refusal: Refusal, e: &Explanation, paint: Paint) -> Vec<String> {
     out.extend(e.notes.iter().map(|note| line(paint, "note", note)));
     out.extend(e.window.iter().flat_map(|w| window(paint, w)));
     out
+}
+
+/// Writes the odd names that an acceptance counts, a line for each, and gives what is wrong with the list.
+pub fn odd_names(out: &mut impl Write, accepted: Accepted, model: &[u8], paint: Paint) -> io::Result<Option<String>> {
+    odd::list(model, accepted.odd, |path, name| {
+        writeln!(out, "{}", line(paint, "odd", &format!("{}: {}", path.shown(), quoted(name))))
+    })
 }
 
 fn line(paint: Paint, key: &str, value: &str) -> String {

@@ -4,6 +4,16 @@ pub fn bytes(hex: &str) -> Vec<u8> {
     hex.split_whitespace().map(|b| u8::from_str_radix(b, 16).unwrap()).collect()
 }
 
+/// A field of bytes or of a message.
+pub fn part(number: u64, contents: &[u8]) -> Vec<u8> {
+    [varint(number << 3 | 2), varint(contents.len() as u64), contents.to_vec()].concat()
+}
+
+fn varint(number: u64) -> Vec<u8> {
+    let bytes = crate::wire::shortest(number);
+    (0..bytes).map(|i| (number >> (7 * i)) as u8 & 0x7F | if i + 1 < bytes { 0x80 } else { 0 }).collect()
+}
+
 /// splitmix64, so that a failure can be repeated.
 pub struct Random(pub u64);
 

@@ -5,6 +5,8 @@ test_answers() {
     examples "$@"
     as_json
     both_places
+    odd_names
+    not_text
     bad_input
     padding
     dear_explanations
@@ -31,8 +33,8 @@ examples() {
         *) same "$file" "$(cut -d' ' -f2-3 <<<"$answer")" "refused $number" ;;
         esac
     done
-    try 0 '*: accepted nodes 9 names 13' '' check ok-tagger.onnx
-    for cells in 26 27; do try 0 '*: accepted nodes 9 names 13' '' check --cells $cells ok-tagger.onnx; done
+    try 0 '*: accepted nodes 9 names 13 odd 0' '' check ok-tagger.onnx
+    for cells in 26 27; do try 0 '*: accepted nodes 9 names 13 odd 0' '' check --cells $cells ok-tagger.onnx; done
     for cells in 25 24 1 0; do
         try 1 "*: refused 40 at *there are $cells cells, 2 for each name*" '' check --cells $cells ok-tagger.onnx
     done
@@ -86,6 +88,78 @@ both_places() {
     rm ./*.onnx
 }
 
+# Names that are not identifiers: how many is the library's to say, and --odd lists as many.
+odd_names() {
+    local exported=$root/examples/ok-exported-names.onnx line=': accepted nodes 2 names 5 odd 8' list
+    list=$(printf '\n  odd    graph > %s' \
+        'input?0? "x" > type > tensor_type > shape > dim?0? > dim_param: "batch-size"' \
+        'initializer?1? "encoder.bias" > name: "encoder.bias"' \
+        'node?0? "/encoder/MatMul" > output?0?: "/encoder/MatMul_output_0"' \
+        'node?0? "/encoder/MatMul" > name: "/encoder/MatMul"' \
+        'node?1? "/encoder/Add" > input?0?: "encoder.bias"' \
+        'node?1? "/encoder/Add" > input?1?: "/encoder/MatMul_output_0"' \
+        'node?1? "/encoder/Add" > name: "/encoder/Add"' \
+        'output?0? "y" > type > tensor_type > shape > dim?0? > dim_param: "batch-size"')
+    same "odd names" "$(script odd "$gate" "$root/examples")" "as expected"
+    try 0 "$exported$line" '' check "$exported"
+    try 0 "$exported$line$list" '' check --odd "$exported"
+    try 0 "$good: accepted nodes 2 names 4 odd 0"$'\n'"$exported$line$list"$'\n2 accepted, 0 refused, 0 not judged' '' \
+        check --odd "$good" "$exported"
+    try 0 '*"odd":8,*,"odd_names":null,"error":null}' '' check --json "$exported"
+    try 0 '*"odd":8,*,"odd_names":\[{"place":*,"path":"*","name":"batch-size",*},{*"/encoder/Add",*}\],"error":null}' '' \
+        check --odd --json "$exported"
+    try 0 '*"odd":0,*,"odd_names":\[\],"error":null}' '' check --odd --json "$good"
+    # a model that is refused has no list, and one that is not there neither
+    run "$gate" check --odd "$refused" >"$work/out"
+    same "a refused model with --odd" "$(cat "$work/out")" "$(run "$gate" check "$refused")"
+    try 1 '*"odd":null,*,"odd_names":null,"error":null}' '' check --odd --json "$refused"
+    try 2 '*"odd":null,*,"odd_names":null,"error":"no such file"}' '*' check --odd --json no-such.onnx
+    run "$gate" check --odd "$exported" >/dev/full 2>/dev/null
+    same "status where no list can be written" $? 2
+    many_odd_names
+}
+
+# A list is as quick as the file is long, and takes no memory.
+many_odd_names() {
+    script large "$root/examples" . odd
+    run python3 "$root/cli/tests/peak.py" 20000 "$gate" check --odd odd.onnx >"$work/out"
+    same "status of many odd names" $? 0
+    same "many odd names" "$(head -1 "$work/out"), $(grep -c '^  odd    ' "$work/out")" \
+        "odd.onnx: accepted nodes 1 names 300000 odd 300001, 300001"
+    run "$gate" check --odd --json odd.onnx >"$work/out"
+    same "many odd names in JSON" "$(grep -o '"name_hex"' "$work/out" | wc -l)" 300002
+    rm odd.onnx "$work/out"
+}
+
+# What is not UTF-8, and where that begins.
+not_text() {
+    local start='\x08\x08\x42\x02\x10\x0D\x3A\x05\x12\x03' name why
+    while read -r name why; do
+        # shellcheck disable=SC2059
+        printf "$start$name" >name.onnx
+        try 1 "name.onnx: refused 21 at 8"$'\n*\n'"  where  graph > name"$'\n*\n'"  note   not UTF-8 at $why"$'\n*' '' \
+            check name.onnx
+    done <<'END'
+a\xC3/ 11, offset 1 in the name: a character that is cut off
+ab\xE2 12, offset 2 in the name: a character that is cut off
+ab\xA9 12, offset 2 in the name: a tail with no lead before it
+a\xC0\x80 11, offset 1 in the name: an overlong form
+\xE0\x9F\xBF 10, offset 0 in the name: an overlong form
+\xED\xA0\x80 10, offset 0 in the name: a surrogate
+\xF4\x90\x80 10, offset 0 in the name: above U+10FFFF
+a\xFFb 11, offset 1 in the name: a byte that no character has
+END
+    for name in 'a/b' '\xE0\xA0\x80' '\xED\x9F\xBF' '\x00\x1B\x7F' '\xEF\xBB\xBF'; do
+        # shellcheck disable=SC2059
+        printf "$start$name" >name.onnx
+        try 0 'name.onnx: accepted nodes 0 names 0 odd 1' '' check name.onnx
+    done
+    printf '\x08\x08\x42\x02\x10\x0D\x3A\x14\x12\x01g\x5A\x0F\x0A\x01x\x12\x0A\x0A\x08\x08\x01\x12\x04\x0A\x02\x12\x00' >name.onnx
+    try 1 $'name.onnx: refused 21 at 26\n*\n  where  graph > input?0? "x" > type > *\n  note   the dim_param is empty\n*' '' \
+        check name.onnx
+    rm name.onnx
+}
+
 bad_input() {
     try 2 '' 'onnx-gate: which command*'
     try 2 '' 'onnx-gate: there is no command "chek"*' chek
@@ -99,6 +173,7 @@ bad_input() {
     try 2 '' '*starts at version 0*' check --allow ai.onnx:0-21 "$good"
     try 2 '' '*exclude each other' check --allow ai.onnx:7-21 --operators l "$good"
     try 2 '' '*exclude each other*' check --json --quiet "$good"
+    try 2 '' '*exclude each other*' check --odd --quiet "$good"
     try 2 '' '*is not a number*' check --cells -5 "$good"
     for seed in '' -1 +1 x 0x 0xg 0X1 1e3 ' 1' 18446744073709551616 0x10000000000000000; do
         try 2 '' '*is not a number below 2^64*' check --seed "$seed" "$good"
@@ -115,13 +190,13 @@ bad_input() {
     try 1 '' '*unsound.lst is not a sound operator list: *' operators show unsound.lst
     # a name that would clear the screen
     printf '\x08\x08\x42\x02\x10\x0D\x3A\x11\x12\x01g\x0A\x0C\x0A\x04\x1B[2J\x12\x01a\x22\x01X' >escape.onnx
-    try 1 '*: refused 21 at 13*"\\u{1b}\[2J"*' '' check escape.onnx
+    try 1 '*: refused 30 at 13*"\\u{1b}\[2J"*' '' check escape.onnx
     run "$gate" check "$good" >/dev/full 2>/dev/null
     same "status where nothing can be written" $? 2
     run "$gate" check "$good" 1</dev/null 2>/dev/null
     same "status where nothing may be written" $? 2
     run "$gate" check - <"$good" >"$work/out"
-    same "standard input" "$(cat "$work/out")" "-: accepted nodes 2 names 4"
+    same "standard input" "$(cat "$work/out")" "-: accepted nodes 2 names 4 odd 0"
     run "$gate" check "$root"/examples/*.onnx 2>/dev/null | head -1 >"$work/out"
     same "a reader that stops" "$(cut -d: -f2 "$work/out" | cut -d' ' -f2-4)" "refused 1 at"
 }
@@ -173,20 +248,20 @@ quick() {
 
 many_names() {
     script large "$root/examples" .
-    try 0 '*: accepted nodes 20000 names 20001' '' check unnamed.onnx
-    try 0 '*: accepted nodes 20000 names 20001' '' check --cells 40002 --seed 7 unnamed.onnx
+    try 0 '*: accepted nodes 20000 names 20001 odd 0' '' check unnamed.onnx
+    try 0 '*: accepted nodes 20000 names 20001 odd 0' '' check --cells 40002 --seed 7 unnamed.onnx
     try 1 '*: refused 40 at *there are 40001 cells*' '' check --cells 40001 unnamed.onnx
-    try 0 '*: accepted nodes 20000 names 20001' '' check named.onnx
+    try 0 '*: accepted nodes 20000 names 20001 odd 0' '' check named.onnx
     try 1 '*: refused 29 at *"node0"*first at 50, graph > node?0? "node0"*' '' check named-twice.onnx
-    try 0 '*: accepted nodes 0 names 20000' '' check defaults.onnx
-    try 0 '*: accepted nodes 1 names 1' '' check attributes.onnx
+    try 0 '*: accepted nodes 0 names 20000 odd 0' '' check defaults.onnx
+    try 0 '*: accepted nodes 1 names 1 odd 0' '' check attributes.onnx
     quick unnamed.onnx
     quick named.onnx
     quick defaults.onnx
     quick attributes.onnx
-    try 0 '*: accepted nodes 1 names 1500000' '' check outputs.onnx
+    try 0 '*: accepted nodes 1 names 1500000 odd 0' '' check outputs.onnx
     # with no memory for them it is not judged, and the next one is
-    expect 2 $'unnamed.onnx: accepted nodes 20000 names 20001\n1 accepted, 0 refused, 1 not judged' \
+    expect 2 $'unnamed.onnx: accepted nodes 20000 names 20001 odd 0\n1 accepted, 0 refused, 1 not judged' \
         'onnx-gate: outputs.onnx: there is no memory for * cells' "${within[@]}" 32000 "$gate" check outputs.onnx unnamed.onnx
     rm -f ./*.onnx
 }

@@ -29,7 +29,7 @@ copied_rust() {
 # As variables and as a link to a link, all at once.
 built_in_any_environment() {
     mkdir elsewhere copy
-    expect 0 'good.onnx: accepted nodes 2 names 4' '' env CDPATH="$work:/:." GATE_LIB_DIR="$PWD/elsewhere" CARGO_BUILD_JOBS=1 \
+    expect 0 'good.onnx: accepted nodes 2 names 4 odd 0' '' env CDPATH="$work:/:." GATE_LIB_DIR="$PWD/elsewhere" CARGO_BUILD_JOBS=1 \
         CARGO_TARGET_DIR="$PWD/elsewhere" CARGO_BUILD_TARGET=x86_64-unknown-none ./linked good.onnx
     same "what was built elsewhere" "$(ls elsewhere)" ""
     expect 1 'refused.onnx: refused 30*' '' bash linked refused.onnx

@@ -21,15 +21,15 @@ from_c() {
             "$("$gate" --version)"
     fi
     eval "holds 'with the shared library' run gcc -o shared example.c $flags"
-    expect 0 'accepted nodes 2 names 4' '' env LD_LIBRARY_PATH="$prefix/lib" ./shared good.onnx
+    expect 0 'accepted nodes 2 names 4 odd 0' '' env LD_LIBRARY_PATH="$prefix/lib" ./shared good.onnx
     holds "with the static library" run gcc -o static example.c -I"$prefix/include" "$prefix/lib/libonnx_gate.a"
-    expect 0 'accepted nodes 2 names 4' '' ./static good.onnx
+    expect 0 'accepted nodes 2 names 4 odd 0' '' ./static good.onnx
 }
 
 from_python() {
     local folder
     folder=$(dirname "$prefix"/lib/python3*/*-packages/onnx_gate*)
-    expect 0 'accepted nodes 2 names 4' '' env PYTHONPATH="$folder" python3 -c '
+    expect 0 'accepted nodes 2 names 4 odd 0' '' env PYTHONPATH="$folder" python3 -c '
 import onnx_gate
 operators = onnx_gate.operators([("ai.onnx", 7, 21)])
 print(onnx_gate.check(open("good.onnx", "rb").read(), operators))'

@@ -4,10 +4,10 @@ import re
 import sys
 from pathlib import Path
 
-KEYS = ["file", "file_hex", "accepted", "nodes", "names", "refusal", "place", "first", "rule", "explanation", "path", "name"]
-KEYS += ["name_hex", "name_length", "notes", "bytes", "error"]
+KEYS = ["file", "file_hex", "accepted", "nodes", "names", "odd", "refusal", "place", "first", "rule", "explanation", "path"]
+KEYS += ["name", "name_hex", "name_length", "notes", "bytes", "odd_names", "error"]
 ALWAYS = {"file", "file_hex", "notes"}
-ACCEPTED = ALWAYS | {"accepted", "nodes", "names"}
+ACCEPTED = ALWAYS | {"accepted", "nodes", "names", "odd"}
 REFUSED = ALWAYS | {"accepted", "refusal", "place", "rule", "explanation"}
 
 
@@ -18,8 +18,8 @@ def line(answer):
     given = {key for key in answer if answer[key] is not None}
     if answer["accepted"]:
         assert given == ACCEPTED and answer["notes"] == [], answer
-        return f"accepted nodes {answer['nodes']} names {answer['names']}"
-    assert REFUSED <= given <= set(KEYS) - {"nodes", "names", "error"}, answer
+        return f"accepted nodes {answer['nodes']} names {answer['names']} odd {answer['odd']}"
+    assert REFUSED <= given <= set(KEYS) - {"nodes", "names", "odd", "odd_names", "error"}, answer
     window = answer["bytes"]
     if window and window["hex"]:
         model = Path(answer["file"]).read_bytes()
@@ -27,7 +27,7 @@ def line(answer):
         assert model[window["start"] :].startswith(shown), answer
         assert window["field_start"] == answer["place"] <= window["field_end"] <= len(model), answer
     if answer["name"] is not None:
-        assert bytes.fromhex(answer["name_hex"]) == answer["name"].encode(), answer
+        assert bytes.fromhex(answer["name_hex"]).decode(errors="replace") == answer["name"], answer
     assert (answer["first"] is not None) == (answer["refusal"] == 23), answer
     first = f" first {answer['first']}" if answer["refusal"] == 23 else ""
     return f"refused {answer['refusal']} at {answer['place']}{first}"

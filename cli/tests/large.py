@@ -1,4 +1,4 @@
-"""Writes models with many names into a folder: large.py EXAMPLES FOLDER."""
+"""Writes models with many names into a folder: large.py EXAMPLES FOLDER [odd]."""
 import sys
 from pathlib import Path
 
@@ -28,6 +28,11 @@ def attributes(count):
     return model(graph("g", node("Relu", [], ["y"], *(integer(f"a{i}", i) for i in range(count)))))
 
 
+if sys.argv[3:] == ["odd"]:
+    # the name that all paths show comes last in its node
+    split = node("Split", [], [f"/v/{i:05x}" for i in range(300_000)], name="/split")
+    (folder / "odd.onnx").write_bytes(model(graph("g", split)))
+    sys.exit()
 (folder / "unnamed.onnx").write_bytes(chain(20_000))
 (folder / "named.onnx").write_bytes(chain(20_000, "node{}".format))
 (folder / "named-twice.onnx").write_bytes(chain(20_000, lambda i: f"node{i % 19_999}"))

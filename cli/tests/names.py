@@ -16,7 +16,7 @@ from make import graph, initializer, model, node, part  # noqa: E402
 
 HOSTILE = [
     # controls, alone and in sequences, and what looks like an answer
-    b"\x1b[2J\x1b]0;title\x07", b"\r accepted", b"a\nb: accepted nodes 1 names 1", b"\x7f\x08", b"\x9b31m",
+    b"\x1b[2J\x1b]0;title\x07", b"\r accepted", b"a\nb: accepted nodes 1 names 1 odd 0", b"\x7f\x08", b"\x9b31m",
     # not UTF-8
     b"\xff\xfe", b"\xc3\x28", b"\xed\xa0\x80",
     # controls of Unicode, of no width, of direction, line ends, marks, blanks, what has no meaning yet
@@ -85,28 +85,45 @@ def words():
             assert run(*line).returncode == 2, line
 
 
-def refused_models(name):
-    """A name in each place of a model where one may stand."""
-    for fields in [
-        node("Relu", [name], ["y"]),
-        node("Relu", [], ["y"], name=name),
-        node("Relu", [], ["y"], domain=name),
-        node("Relu", [], ["y"], part(1, name)),
-        initializer(name),
+def is_text(name):
+    try:
+        return name.decode() != ""
+    except UnicodeDecodeError:
+        return False
+
+
+def models(name):
+    """A name in each place of a model where one may stand, and whether it is accepted there."""
+    text = is_text(name)
+    for fields, accepted in [
+        (node("Relu", [name], ["y"]), False),
+        (node("Relu", [], [name]), text),
+        (node("Relu", [], ["y"], name=name), text),
+        (node(name, [], ["y"]), text),
+        (node("Relu", [], ["y"], domain=name), False),
+        (node("Relu", [], ["y"], part(1, name)), False),
+        (initializer(name), text),
     ]:
-        yield model(graph("g", fields))
-    yield model(graph(name))
-    yield model(graph("g"), imports=part(8, part(1, name)))
+        yield model(graph("g", fields)), accepted
+    yield model(graph(name)), text
+    yield model(graph("g"), imports=part(8, part(1, name))), False
 
 
 def names(folder):
     """Every name in models and in a list."""
     path, list_path = Path(folder, "m.onnx"), Path(folder, "l")
     for name in HOSTILE:
-        for made in refused_models(name):
+        for made, accepted in models(name):
             path.write_bytes(made)
-            assert run("check", path).returncode == 1
-            (found,) = objects(path)
+            done = run("check", "--odd", path)
+            assert done.returncode == 1 - accepted, done
+            (found,) = objects("--odd", path)
+            assert found["accepted"] == accepted and (found["refusal"] != 21 or len(found["notes"]) == 1), found
+            if accepted:
+                (odd,) = found["odd_names"]
+                assert bytes.fromhex(odd["name_hex"]) == name, found
+                _, line = done.stdout.splitlines()
+                assert line.startswith(b"  odd    " + odd["path"].encode() + b": "), done
             if found["name"] is not None:
                 assert bytes.fromhex(found["name_hex"]) in made and found["name_length"] > 0, found
         entry = name + bytes(8)

@@ -11,7 +11,7 @@ passes() {
 }
 
 test_pass() {
-    passes 0 "$good" "$good: accepted nodes 2 names 4" "$good"
+    passes 0 "$good" "$good: accepted nodes 2 names 4 odd 0" "$good"
     passes 0 "$good" '*: accepted*' --seed 3 --cells 8 --allow ai.onnx:7-21 "$good"
     passes 1 '' '*: refused 30 at *  where  *' "$refused"
     passes 1 '' '*: refused 40 at *' --cells 7 "$good"

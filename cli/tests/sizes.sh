@@ -35,7 +35,7 @@ too_large() {
     truncate -s 5G large.onnx && truncate -s 2147483648 above.onnx && truncate -s 2147483647 largest.onnx
     # a sound model of 19 bytes, if 32 bits were all that is counted
     printf '\x08\x08\x42\x02\x10\x0D\x3A\x0B\x12\x01g\x0A\x06\x12\x01a\x22\x01X' >wraps.onnx
-    try 0 'wraps.onnx: accepted nodes 1 names 1' '' check wraps.onnx
+    try 0 'wraps.onnx: accepted nodes 1 names 1 odd 0' '' check wraps.onnx
     truncate -s $((4294967296 + 19)) wraps.onnx
     for file in large above wraps; do
         expect 1 "$file.onnx: refused 7 at 0*" "*$file.onnx is larger than any model*" "${small[@]}" "$gate" check "$file.onnx"
@@ -50,12 +50,13 @@ too_large() {
 # 1.9 GB of weights, and as many as a model may have: pages that nobody reads are not in memory.
 one_initializer() {
     sparse 2147483647 accepted
-    expect 0 'accepted.onnx: accepted nodes 1 names 2' '' "${small[@]}" "$gate" check accepted.onnx
+    expect 0 'accepted.onnx: accepted nodes 1 names 2 odd 0' '' "${small[@]}" "$gate" check accepted.onnx
     sparse 2147483648 accepted
     expect 1 'accepted.onnx: refused 7 at 0*' '*' "${small[@]}" "$gate" check accepted.onnx
     sparse 1900000000 accepted
-    expect 0 'accepted.onnx: accepted nodes 1 names 2' '' "${small[@]}" "$gate" check accepted.onnx
-    expect 0 '*"accepted":true,"nodes":1,"names":2,*' '' "${small[@]}" "$gate" check --json accepted.onnx
+    expect 0 'accepted.onnx: accepted nodes 1 names 2 odd 0' '' "${small[@]}" "$gate" check accepted.onnx
+    expect 0 'accepted.onnx: accepted nodes 1 names 2 odd 0' '' "${small[@]}" "$gate" check --odd accepted.onnx
+    expect 0 '*"accepted":true,"nodes":1,"names":2,"odd":0,*' '' "${small[@]}" "$gate" check --json accepted.onnx
     expect 0 '' '' "${small[@]}" "$gate" check -q accepted.onnx
     rm accepted.onnx
 }
@@ -90,14 +91,14 @@ in_a_folder() {
 under_a_writer() {
     sparse 20000000 accepted
     exec 7>>accepted.onnx
-    try 0 'accepted.onnx: accepted nodes 1 names 2' '' check accepted.onnx
+    try 0 'accepted.onnx: accepted nodes 1 names 2 odd 0' '' check accepted.onnx
     run "${small[@]}" "$gate" check accepted.onnx >/dev/null 2>&1
     same "a copy under a writer" $? 99
     exec 7>&-
-    expect 0 'accepted.onnx: accepted nodes 1 names 2' '' "${small[@]}" "$gate" check accepted.onnx
+    expect 0 'accepted.onnx: accepted nodes 1 names 2 odd 0' '' "${small[@]}" "$gate" check accepted.onnx
     if [ "$(id -u)" = 0 ] && command -v setpriv >/dev/null; then
         chown 65534 accepted.onnx
-        expect 0 'accepted.onnx: accepted nodes 1 names 2' '' setpriv --bounding-set=-lease "$gate" check accepted.onnx
+        expect 0 'accepted.onnx: accepted nodes 1 names 2 odd 0' '' setpriv --bounding-set=-lease "$gate" check accepted.onnx
         run "${small[@]}" "$(command -v setpriv)" --bounding-set=-lease "$gate" check accepted.onnx >/dev/null 2>&1
         same "a copy of another user's file" $? 99
     fi
@@ -109,11 +110,11 @@ copies() {
     local most=$((200000000 / 1024 + 20000))
     sparse 200000000 accepted
     run python3 "$root/cli/tests/peak.py" "$most" "$gate" check - <accepted.onnx >"$work/out"
-    same "standard input" "$?: $(cat "$work/out")" "0: -: accepted nodes 1 names 2"
+    same "standard input" "$?: $(cat "$work/out")" "0: -: accepted nodes 1 names 2 odd 0"
     run cat accepted.onnx | run python3 "$root/cli/tests/peak.py" "$most" "$gate" check - >"$work/out"
-    same "a pipe" "$?: $(cat "$work/out")" "0: -: accepted nodes 1 names 2"
+    same "a pipe" "$?: $(cat "$work/out")" "0: -: accepted nodes 1 names 2 odd 0"
     run python3 "$root/cli/tests/peak.py" "$most" "$gate" pass accepted.onnx 2>"$work/err" | cmp - accepted.onnx
-    same "pass" "${PIPESTATUS[*]}: $(cat "$work/err")" "0 0: accepted.onnx: accepted nodes 1 names 2"
+    same "pass" "${PIPESTATUS[*]}: $(cat "$work/err")" "0 0: accepted.onnx: accepted nodes 1 names 2 odd 0"
     rm accepted.onnx
 }
 
@@ -131,7 +132,7 @@ repeated_names() {
 }
 
 largest_numbers() {
-    expect 0 '*: accepted nodes 2 names 4' '' "${within[@]}" 32000 "$gate" check --cells 2147483647 "$good"
+    expect 0 '*: accepted nodes 2 names 4 odd 0' '' "${within[@]}" 32000 "$gate" check --cells 2147483647 "$good"
     try 2 '' '*"2147483648" is not a number from 0 to 2147483647' check --cells 2147483648 "$good"
     truncate -s 67108864 longest.lst && truncate -s 67108865 longer.lst
     try 1 '*: refused 8 at 0*' '*longest.lst is not a sound operator list*' check --operators longest.lst "$good"

@@ -11,8 +11,8 @@ test_words() {
 # A folder with a good model, a bad one, and a good one of a name that is an option: all are checked, or none is.
 options_from_a_glob() {
     local name number=0
-    for name in --help --version -h -V --json -q --quiet --seed=1 --cells=9 --allow=ai.onnx:7-21 --operators=z -- - \
-        --help=.onnx --version.onnx -h.onnx --json.onnx -q.ONNX --seed=1.onnx --operators=z.onnx --=.onnx -.onnx; do
+    for name in --help --version -h -V --json --odd -q --quiet --seed=1 --cells=9 --allow=ai.onnx:7-21 --operators=z -- - \
+        --help=.onnx --version.onnx -h.onnx --json.onnx --odd.onnx -q.ONNX --seed=1.onnx --operators=z.onnx --=.onnx -.onnx; do
         number=$((number + 1))
         mkdir "$number" && cd "$number" || exit 2
         cp "$good" "./$name" && cp "$good" a.onnx && cp "$good" z && cp "$refused" zz.onnx
@@ -48,7 +48,7 @@ other_rules_from_a_glob() {
 }
 
 late_options() {
-    for word in --json -q --help --version --operators=l -- --allow=:1-2; do
+    for word in --json --odd -q --help --version --operators=l -- --allow=:1-2; do
         try 2 '' "onnx-gate: \"$word\" stands behind a model*" check "$good" "$word"
         try 2 '' "onnx-gate: \"$word\" stands behind a model*" check "$good" "$word" "$good"
     done
@@ -57,6 +57,7 @@ late_options() {
     try 2 '' '*stands alone*' check --help --help
     try 2 '' '*there is no command "--help"*' --help "$good"
     try 2 '' '*takes no value*' check --json=1 "$good"
+    try 2 '' '*takes no value*' check --odd=1 "$good"
     cp "$good" ./--b
     try 0 '*accepted*--b: accepted*' '' check -- "$good" --b
     try 2 '' '*is the name of a file here as well*' check --b

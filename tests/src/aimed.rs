@@ -11,7 +11,7 @@ mod parts;
 mod scopes;
 mod starts;
 
-use crate::checker::{Verdict, CELLS_PER_NAME};
+use crate::checker::{Counts, Verdict, CELLS_PER_NAME};
 use crate::models::lists::L;
 use crate::rows::Row;
 
@@ -30,8 +30,9 @@ const MANY: usize = 24;
 /// Which of many names comes again: the first, some on each side of where a small memory ends, the last.
 const AGAIN: [usize; 6] = [0, 1, 6, 7, 13, MANY - 1];
 
+/// All names are identifiers.
 fn accepted(name: &str, model: Vec<u8>, nodes: usize, names: usize) -> Row {
-    let answer = Verdict::Accepted { nodes: nodes as u64, names: names as u64 };
+    let answer = Verdict::Accepted(Counts { nodes: nodes as u64, names: names as u64, odd: 0 });
     Row { name: name.into(), model, list: L.to_vec(), cells: CELLS_PER_NAME * names, answer }
 }
 

@@ -8,7 +8,8 @@ use crate::header::header;
 use crate::oplist;
 use crate::parts::{all, contents, first, identifier, number_in, refuse, Step};
 use crate::schema;
-pub use crate::verdict::{Refusal, Verdict};
+use crate::utf8::well_formed;
+pub use crate::verdict::{Counts, Refusal, Verdict};
 use crate::wire::{fields, Field};
 
 /// The largest model, in bytes.
@@ -28,15 +29,15 @@ pub fn unbounded(model: &[u8], list: &[u8]) -> (Verdict, usize) {
     (verdict(judged), CELLS_PER_NAME * names)
 }
 
-fn verdict(judged: Result<(u64, u64), Refusal>) -> Verdict {
+fn verdict(judged: Result<Counts, Refusal>) -> Verdict {
     match judged {
-        Ok((nodes, names)) => Verdict::Accepted { nodes, names },
+        Ok(counts) => Verdict::Accepted(counts),
         Err(Refusal { number, place, first }) => Verdict::Refused { number, place, first },
     }
 }
 
 /// The counts of an acceptance. `most` is set to the most names that were visible together, whatever the end.
-fn judge(model: &[u8], list: &[u8], cells: usize, most: &mut usize) -> Result<(u64, u64), Refusal> {
+fn judge(model: &[u8], list: &[u8], cells: usize, most: &mut usize) -> Result<Counts, Refusal> {
     if model.len() > LARGEST_MODEL {
         return refuse(7, 0);
     }
@@ -46,10 +47,11 @@ fn judge(model: &[u8], list: &[u8], cells: usize, most: &mut usize) -> Result<(u
     schema::first_walk(model)?;
     let (graph, imports) = header(model, &operators)?;
     let room = cells / CELLS_PER_NAME;
-    let mut judge = Judge { model, imports, room, visible: HashMap::new(), trail: Vec::new(), nodes: 0, names: 0 };
+    let mut judge =
+        Judge { model, imports, room, visible: HashMap::new(), trail: Vec::new(), nodes: 0, names: 0, odd: 0 };
     let done = judge.graph(graph, true);
     *most = judge.names;
-    done.map(|()| (judge.nodes, judge.names as u64))
+    done.map(|()| Counts { nodes: judge.nodes, names: judge.names as u64, odd: judge.odd })
 }
 
 /// For each attribute type from 1 to 14 the field that carries its value.
@@ -66,6 +68,8 @@ struct Judge<'m> {
     trail: Vec<&'m [u8]>,
     nodes: u64,
     names: usize,
+    /// Fields that were tested for 21 so far and are no identifiers.
+    odd: u64,
 }
 
 impl<'m> Judge<'m> {
@@ -122,13 +126,13 @@ impl<'m> Judge<'m> {
         self.name(node, 4, 27)?;
         self.domain(node)?;
         if let Some(field) = first(model, node, 3).filter(|field| field.start != field.end) {
-            self.identifier(field)?;
+            self.text(field)?;
             if !node_names.insert(contents(model, field)) {
                 return refuse(29, field.place);
             }
         }
         for input in all(model, node, 1).filter(|field| field.start != field.end) {
-            self.identifier(input)?;
+            self.text(input)?;
             self.use_name(contents(model, input), input.place, 30)?;
         }
         let mut attribute_names = HashSet::new();
@@ -139,7 +143,7 @@ impl<'m> Judge<'m> {
             return refuse(34, node.place);
         }
         for output in all(model, node, 2).filter(|field| field.start != field.end) {
-            self.identifier(output)?;
+            self.text(output)?;
             self.bind(contents(model, output), output.place)?;
         }
         Ok(())
@@ -194,7 +198,7 @@ impl<'m> Judge<'m> {
     }
 
     /// The type of an input or output of the main graph: 24, 25, 37, then each dim.
-    fn tensor_type(&self, value_info: Field) -> Step {
+    fn tensor_type(&mut self, value_info: Field) -> Step {
         let model = self.model;
         let Some(kind) = first(model, value_info, 2) else {
             return refuse(24, value_info.place);
@@ -209,30 +213,38 @@ impl<'m> Judge<'m> {
         for dim in all(model, shape, 1) {
             number_in(model, dim, 1, 0..=i64::MAX, 38)?;
             if let Some(variable) = first(model, dim, 2) {
-                self.identifier(variable)?;
+                if variable.start == variable.end {
+                    return refuse(21, variable.place);
+                }
+                self.text(variable)?;
             }
         }
         Ok(())
     }
 
     /// The name in the field `number` of `message`: `empty` where it is absent or empty, then 21.
-    fn name(&self, message: Field, number: u32, empty: u64) -> Result<(&'m [u8], usize), Refusal> {
+    fn name(&mut self, message: Field, number: u32, empty: u64) -> Result<(&'m [u8], usize), Refusal> {
         let Some(field) = first(self.model, message, number) else {
             return refuse(empty, message.place);
         };
         if field.start == field.end {
             return refuse(empty, field.place);
         }
-        self.identifier(field)?;
+        self.text(field)?;
         Ok((contents(self.model, field), field.place))
     }
 
-    fn identifier(&self, field: Field) -> Step {
-        if identifier(contents(self.model, field)) {
-            Ok(())
-        } else {
-            refuse(21, field.place)
+    /// 21 of a field that is not empty: it is UTF-8, as every identifier is. One that is no identifier is odd.
+    fn text(&mut self, field: Field) -> Step {
+        let name = contents(self.model, field);
+        if identifier(name) {
+            return Ok(());
         }
+        if !well_formed(name) {
+            return refuse(21, field.place);
+        }
+        self.odd += 1;
+        Ok(())
     }
 
     fn define(&mut self, message: Field, number: u32) -> Step {

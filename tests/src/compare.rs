@@ -7,10 +7,11 @@ use crate::checker::{check, unbounded};
 use crate::lending::{self, Combination, Lending, Tries};
 use crate::library::{indexed_agrees, indexed_answer, plain_agrees};
 use crate::models::Case;
+use crate::odd;
 use crate::rng::Rng;
 use crate::rows::Row;
 use crate::runner::{End, Plan, Run};
-use crate::verdict::{refusal_numbers, Verdict};
+use crate::verdict::{refusal_numbers, Counts, Verdict};
 
 /// What was done so far.
 #[derive(Default)]
@@ -30,6 +31,9 @@ pub struct Tally {
     /// Answers of 23 whose `first` was held to the runner's defining place, and how many of these have it behind their own place.
     pub twice: u64,
     pub behind: u64,
+    /// Acceptances whose third count was held to a count of its own, and how many of these have odd names.
+    pub counted: u64,
+    pub odd: u64,
 }
 
 /// A failed comparison, with all that is needed to make it again.
@@ -72,9 +76,9 @@ impl Tally {
         self.bytes += case.model.len() as u64;
         let at = |told: String| failure(&case.label, &case.model, &case.list, usize::MAX, told);
         let most = self.each_count(&case.label, &case.model, &case.list, FEW_CELLS, rng)?;
-        if let Some((nodes, names)) = case.expected {
-            if most != (Verdict::Accepted { nodes, names }) {
-                return Err(at(format!("made sound with {nodes} nodes, {names} names; the checker says {most:?}")));
+        if let Some(counts) = case.expected {
+            if most != Verdict::Accepted(counts) {
+                return Err(at(format!("made sound with {counts:?}; the checker says {most:?}")));
             }
         }
         self.demand_3(&case.model, most, rng).map_err(at)
@@ -128,6 +132,7 @@ impl Tally {
         let at = |told: String| failure(label, model, list, cells, told);
         plain_agrees(model, list, cells, verdict).map_err(at)?;
         self.stops(model, verdict).map_err(at)?;
+        self.counts_odd(model, verdict).map_err(at)?;
         for (kind, lending) in tries.lendings(cells, model.len()) {
             *self.combinations.entry(kind).or_default() += 1;
             self.indexed(model, list, cells, lending, verdict).map_err(at)?;
@@ -151,7 +156,7 @@ impl Tally {
 
     fn demand_3(&mut self, model: &[u8], verdict: Verdict, rng: &mut Rng) -> Result<(), String> {
         match verdict {
-            Verdict::Accepted { nodes, names } => self.every_run_ends(model, nodes, names, rng),
+            Verdict::Accepted(counts) => self.every_run_ends(model, counts, rng),
             Verdict::Refused { .. } => self.stops(model, verdict),
         }
     }
@@ -178,7 +183,20 @@ impl Tally {
         }
     }
 
-    fn every_run_ends(&mut self, model: &[u8], nodes: u64, names: u64, rng: &mut Rng) -> Result<(), String> {
+    /// The third count of an acceptance is that of the fields by themselves.
+    fn counts_odd(&mut self, model: &[u8], verdict: Verdict) -> Result<(), String> {
+        let Verdict::Accepted(counts) = verdict else {
+            return Ok(());
+        };
+        self.counted += 1;
+        self.odd += u64::from(counts.odd > 0);
+        match odd::count(model) {
+            odd if odd == counts.odd => Ok(()),
+            odd => Err(format!("accepted with {counts:?}, and {odd} of its fields are odd")),
+        }
+    }
+
+    fn every_run_ends(&mut self, model: &[u8], counts: Counts, rng: &mut Rng) -> Result<(), String> {
         let plan = Plan::read(model);
         let mut found: HashMap<u64, u64> = HashMap::new();
         for choices in choice_lists(plan.bodies(), rng) {
@@ -195,19 +213,18 @@ impl Tally {
                     return Err(format!("the field at {} {both}", read.field));
                 }
             }
-            counts_agree(&run, &choices, nodes, names)?;
+            counts_agree(&run, &choices, counts)?;
         }
         Ok(())
     }
 }
 
-/// The run that enters every body once meets the true counts of an acceptance: an independent count of both.
-fn counts_agree(run: &Run, choices: &[u64], nodes: u64, names: u64) -> Result<(), String> {
-    if !choices.is_empty() || (run.nodes_run, run.most_bound) == (nodes, names) {
+/// The run that enters every body once meets the true nodes and names of an acceptance: an independent count of both.
+fn counts_agree(run: &Run, choices: &[u64], counts: Counts) -> Result<(), String> {
+    if !choices.is_empty() || (run.nodes_run, run.most_bound) == (counts.nodes, counts.names) {
         return Ok(());
     }
-    let counted = format!("the run counts {} and {}", run.nodes_run, run.most_bound);
-    Err(format!("accepted with {nodes} nodes, {names} names; {counted}"))
+    Err(format!("accepted with {counts:?}; the run counts {} nodes, {} names", run.nodes_run, run.most_bound))
 }
 
 pub(crate) fn failure(label: &str, model: &[u8], list: &[u8], cells: usize, told: String) -> Box<Failure> {

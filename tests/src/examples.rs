@@ -3,7 +3,7 @@
 use std::collections::BTreeMap;
 use std::fs;
 
-use crate::checker::{check, Verdict};
+use crate::checker::{check, Counts, Verdict};
 use crate::models::lists::{encode, Entry};
 
 const ROOT: &str = concat!(env!("CARGO_MANIFEST_DIR"), "/..");
@@ -40,11 +40,14 @@ fn the_table_is_the_checkers() {
 
 /// So that a binding that mixes them up is seen.
 #[test]
-fn nodes_and_names_differ() {
+fn counts_differ() {
     let accepted = answers().into_values().filter_map(|verdict| match verdict {
-        Verdict::Accepted { nodes, names } => Some((nodes, names)),
+        Verdict::Accepted(counts) => Some(counts),
         Verdict::Refused { .. } => None,
     });
-    let counts: Vec<(u64, u64)> = accepted.collect();
-    assert!(counts.len() > 2 && counts.iter().all(|(nodes, names)| nodes != names), "{counts:?}");
+    let counts: Vec<Counts> = accepted.collect();
+    let differ =
+        |counts: &Counts| counts.nodes != counts.names && counts.odd != counts.nodes && counts.odd != counts.names;
+    assert!(counts.len() > 2 && counts.iter().all(differ), "{counts:?}");
+    assert!(counts.iter().any(|counts| counts.odd > 0), "{counts:?}");
 }

@@ -4,7 +4,7 @@
 //! returns a `#[repr(C)]` struct by C's rules. So `onnx_gate_check(model: &[u8], list: &[u8], cells: &mut [u32])` has
 //! the six parameters below, and the indexed check nine. An empty slice may have any pointer that is aligned and not null, as Rust's own has.
 
-use crate::checker::Verdict;
+use crate::checker::{Counts, Verdict};
 
 /// The answer as it crosses: `refusal` is 0 for an acceptance; numbers that do not apply are 0.
 #[repr(C)]
@@ -15,6 +15,7 @@ pub struct Answer {
     pub nodes: u64,
     pub names: u64,
     pub first: u64,
+    pub odd: u64,
 }
 
 extern "C" {
@@ -67,12 +68,12 @@ impl Answer {
     /// The answer as a verdict; Err where a number that does not apply is not 0.
     pub fn verdict(self) -> Result<Verdict, String> {
         let accepted = self.refusal == 0;
-        let stray = if accepted { self.place != 0 } else { self.nodes != 0 || self.names != 0 };
+        let stray = if accepted { self.place != 0 } else { self.nodes != 0 || self.names != 0 || self.odd != 0 };
         if stray || self.refusal != 23 && self.first != 0 {
             return Err(format!("a number that does not apply is not 0: {self:?}"));
         }
         if accepted {
-            Ok(Verdict::Accepted { nodes: self.nodes, names: self.names })
+            Ok(Verdict::Accepted(Counts { nodes: self.nodes, names: self.names, odd: self.odd }))
         } else {
             Ok(Verdict::Refused { number: self.refusal, place: self.place, first: self.first })
         }

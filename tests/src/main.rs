@@ -102,11 +102,12 @@ fn run(settings: &Settings, tally: &mut Tally) -> Outcome {
         tally.row(row)?;
         tally.spellings(row)?;
     }
-    for row in rows::positions().iter().chain(&rows::wide()) {
+    for row in rows::positions().iter().chain(&rows::names()).chain(&rows::wide()) {
         tally.row(row)?;
     }
     aimed_models(tally)?;
     short_models(tally)?;
+    short_names(tally)?;
     neighbours(tally)?;
     for row in rows::large() {
         tally.row(&row)?;
@@ -142,10 +143,7 @@ fn aimed_models(tally: &mut Tally) -> Outcome {
 /// All models of one and two bytes, and of three where the last is 0, as in a padded varint: the wire's edges, whole.
 fn short_models(tally: &mut Tally) -> Outcome {
     let mut rng = Rng::new(2);
-    let mut short = |label: &str, model: &[u8]| {
-        tally.cases += 1;
-        tally.verdict(label, model, &models::lists::L, 1, Tries::Some(1, &mut rng)).map(|_| ())
-    };
+    let mut short = |label: &str, model: &[u8]| short(tally, label, model, &mut rng);
     for first in 0..=255u8 {
         short("one byte", &[first])?;
         for second in 0..=255u8 {
@@ -156,11 +154,45 @@ fn short_models(tally: &mut Tally) -> Outcome {
     Ok(())
 }
 
+/// All graph names of one and two bytes, and those of three and four with tails at the ends of their ranges or beside them.
+fn short_names(tally: &mut Tally) -> Outcome {
+    let mut rng = Rng::new(3);
+    let mut named = |name: &[u8]| {
+        let length = name.len() as u8;
+        let model = [&[8, 8, 0x42, 2, 0x10, 13, 0x3A, 2 + length, 0x12, length], name].concat();
+        short(tally, "a graph's name", &model, &mut rng)
+    };
+    for first in 0..=255u8 {
+        named(&[first])?;
+        for second in 0..=255u8 {
+            named(&[first, second])?;
+        }
+        for second in [0x7F, 0x80, 0x8F, 0x90, 0x9F, 0xA0, 0xBF, 0xC0] {
+            for third in TAILS {
+                named(&[first, second, third])?;
+                for fourth in TAILS {
+                    named(&[first, second, third, fourth])?;
+                }
+            }
+        }
+    }
+    Ok(())
+}
+
+/// The least and the greatest tail of UTF-8, and what is beside them.
+const TAILS: [u8; 4] = [0x7F, 0x80, 0xBF, 0xC0];
+
+/// One call of each check: such models are many, and bind nothing.
+fn short(tally: &mut Tally, label: &str, model: &[u8], rng: &mut Rng) -> Outcome {
+    tally.cases += 1;
+    tally.verdict(label, model, &models::lists::L, 1, Tries::Some(1, rng)).map(|_| ())
+}
+
 /// The accepted rows with each byte replaced by each other, taken out, or the last.
 fn neighbours(tally: &mut Tally) -> Outcome {
     let mut rng = Rng::new(0);
     for row in rows::document().into_iter().chain(rows::by_hand()) {
-        if !matches!(row.answer, Verdict::Accepted { .. }) || row.model.len() > 64 {
+        if !matches!(row.answer, Verdict::Accepted(_)) || row.model.len() > 64 {
             continue;
         }
         let mut near =
@@ -187,6 +219,10 @@ fn report(tally: &Tally, seconds: f64) {
     println!("{} cases, {} verdicts in {seconds:.1} s ({per_second:.0} cases a second)", tally.cases, tally.verdicts);
     println!("{} bytes of generated models; {} runs of the runner, {} reads", tally.bytes, tally.runs, tally.reads);
     println!("{} answers of 23 with the runner's defining place, {} of them before it", tally.twice, tally.behind);
+    println!(
+        "{} acceptances with the third count of the fields by themselves, {} with odd names",
+        tally.counted, tally.odd
+    );
     let least = tally.rarest().0;
     println!("{} calls of the indexed check, {} of them answered 65;", tally.indexed, tally.short);
     println!("each size of extra cells with each seed at least {least} times");

@@ -4,6 +4,7 @@
 pub mod damage;
 pub mod faults;
 pub mod lists;
+pub mod names;
 pub mod proto;
 pub mod sparse;
 pub mod valid;
@@ -11,6 +12,7 @@ pub mod wild;
 
 use crate::rng::Rng;
 use crate::schema::Message;
+use crate::verdict::Counts;
 use proto::Tree;
 
 /// One model under one list. `expected` are the counts of its acceptance, where it was made sound.
@@ -19,7 +21,7 @@ pub struct Case {
     pub label: String,
     pub model: Vec<u8>,
     pub list: Vec<u8>,
-    pub expected: Option<(u64, u64)>,
+    pub expected: Option<Counts>,
 }
 
 /// The case of a seed and a number. Faults go round with the number, so that each has its turn.
@@ -50,8 +52,8 @@ fn unsound(mut tree: Tree, rng: &mut Rng) -> Vec<u8> {
 
 fn sound(rng: &mut Rng) -> Case {
     let made = valid::valid(rng);
-    let expected = Some((made.nodes, made.names));
-    Case { label: "sound".into(), model: made.tree.encode(), list: lists::encode(&made.entries), expected }
+    let list = lists::encode(&made.entries);
+    Case { label: "sound".into(), model: made.tree.encode(), list, expected: Some(made.counts) }
 }
 
 /// The fault whose turn it is, on sound models until one has a place for it.

@@ -4,6 +4,8 @@ mod by_hand;
 mod domains;
 mod large;
 mod lengths;
+mod names;
+mod odd;
 mod padded;
 mod positions;
 mod twice;
@@ -12,10 +14,11 @@ mod wide;
 
 pub use by_hand::by_hand;
 pub use large::large;
+pub use names::names;
 pub use positions::positions;
 pub use wide::wide;
 
-use crate::checker::Verdict;
+use crate::checker::{Counts, Verdict};
 use crate::models::lists::L;
 use crate::models::proto::Tree;
 use crate::schema::Message;
@@ -51,8 +54,13 @@ fn twice(place: u64, first: u64) -> Verdict {
     Verdict::twice(place, first)
 }
 
+/// Every name is an identifier.
 fn accepted(nodes: u64, names: u64) -> Verdict {
-    Verdict::Accepted { nodes, names }
+    with_odd(nodes, names, 0)
+}
+
+fn with_odd(nodes: u64, names: u64, odd: u64) -> Verdict {
+    Verdict::Accepted(Counts { nodes, names, odd })
 }
 
 /// The table "Sample models under L" of document 01, all but the two rows of the largest size (`large`).
@@ -96,9 +104,13 @@ fn with_byte(model: &str, at: usize, byte: u8) -> Vec<u8> {
     model
 }
 
-/// A sound model whose graphs are nested to `depth`, each body in a node whose one output is left out.
+/// A sound model whose graphs are nested to `depth`.
 pub fn nested(depth: usize) -> Vec<u8> {
-    let mut graph = Tree::new(Message::Graph).text(2, b"g");
+    at_depth(depth, Tree::new(Message::Graph).text(2, b"g"))
+}
+
+/// A model with this graph at `depth`, each body in a node whose one output is left out.
+fn at_depth(depth: usize, mut graph: Tree) -> Vec<u8> {
     for _ in 1..depth {
         let attribute = Tree::new(Message::Attribute).text(1, b"b").number(20, 5).tree(6, graph);
         let node = Tree::new(Message::Node).text(2, b"").text(4, b"X").tree(5, attribute);
@@ -114,6 +126,7 @@ mod tests {
     use super::*;
     use crate::checker::check;
     use crate::checker::Verdict::{Accepted, Refused};
+    use crate::odd;
     use crate::runner::{run, End, Read};
 
     fn holds(rows: impl IntoIterator<Item = Row>) {
@@ -143,17 +156,36 @@ mod tests {
     }
 
     #[test]
+    fn each_field_with_each_name() {
+        assert!(names().len() > 1_500);
+        holds(names());
+    }
+
+    #[test]
     fn each_position_of_a_padded_varint() {
         assert!(positions().len() > 1_000);
         holds(positions());
     }
 
+    fn all_rows() -> impl Iterator<Item = Row> {
+        document().into_iter().chain(by_hand()).chain(names()).chain(wide()).chain(large())
+    }
+
+    #[test]
+    fn the_third_count_by_itself_on_all_rows() {
+        for row in all_rows() {
+            if let Accepted(counts) = row.answer {
+                assert_eq!(odd::count(&row.model), counts.odd, "{}", row.name);
+            }
+        }
+    }
+
     /// Demand 3 on the rows: accepted models run to their end, and 23, 30 and 35 stop the run at their place.
     #[test]
     fn the_runner_on_all_rows() {
-        for row in document().into_iter().chain(by_hand()).chain(wide()).chain(large()) {
+        for row in all_rows() {
             let expected = match row.answer {
-                Accepted { .. } => End::Reached,
+                Accepted(_) => End::Reached,
                 Refused { number: 23, place, first } => End::BoundAgain { place, defined: first },
                 Refused { number: 30 | 35, place, .. } => End::Unbound { place },
                 Refused { .. } => continue,

@@ -59,7 +59,7 @@ pub struct Run {
     pub end: End,
     pub reads: Vec<Read>,
     /// The greatest number of names bound together, and of nodes run. Document 01 asks for neither; with the
-    /// empty list of choices they must be the two counts of an acceptance, which tests the checker.
+    /// empty list of choices they must be the first two counts of an acceptance, which tests the checker.
     pub most_bound: u64,
     pub nodes_run: u64,
 }

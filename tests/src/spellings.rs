@@ -135,7 +135,7 @@ fn places(tree: &Tree, start: usize) -> Vec<usize> {
 /// But for the place, which other bytes have moved.
 fn says_the_same(one: Verdict, other: Verdict) -> bool {
     match (one, other) {
-        (Accepted { .. }, _) => one == other,
+        (Accepted(_), _) => one == other,
         (Refused { number, .. }, _) => other.number() == number,
     }
 }

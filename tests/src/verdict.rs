@@ -2,11 +2,20 @@
 
 use std::fmt;
 
-/// The answer of document 01: two counts, or a number and a place. `first` is 0 but for 23: there it is the place of the definition
-/// that is visible already.
+/// What an acceptance counts: nodes in all graphs, the most names visible together, and the nonempty fields that are tested for 21 and are
+/// no identifiers.
+#[derive(Clone, Copy, Debug, PartialEq, Eq)]
+pub struct Counts {
+    pub nodes: u64,
+    pub names: u64,
+    pub odd: u64,
+}
+
+/// The answer of document 01: counts, or a number and a place. `first` is 0 but for 23: there it is the place of the definition that is
+/// visible already.
 #[derive(Clone, Copy, Debug, PartialEq, Eq)]
 pub enum Verdict {
-    Accepted { nodes: u64, names: u64 },
+    Accepted(Counts),
     Refused { number: u64, place: u64, first: u64 },
 }
 
@@ -31,7 +40,9 @@ pub fn refusal_numbers() -> Vec<u64> {
 impl fmt::Display for Verdict {
     fn fmt(&self, f: &mut fmt::Formatter<'_>) -> fmt::Result {
         match self {
-            Verdict::Accepted { nodes, names } => write!(f, "accepted nodes {nodes} names {names}"),
+            Verdict::Accepted(Counts { nodes, names, odd }) => {
+                write!(f, "accepted nodes {nodes} names {names} odd {odd}")
+            }
             Verdict::Refused { number: 23, place, first } => write!(f, "refused 23 at {place} first {first}"),
             Verdict::Refused { number, place, .. } => write!(f, "refused {number} at {place}"),
         }
@@ -54,13 +65,13 @@ impl Verdict {
         match self {
             Verdict::Refused { number: 23, place, first } => first != place && first < bytes as u64,
             Verdict::Refused { first, .. } => first == 0,
-            Verdict::Accepted { .. } => true,
+            Verdict::Accepted(_) => true,
         }
     }
 
     pub fn number(self) -> u64 {
         match self {
-            Verdict::Accepted { .. } => 0,
+            Verdict::Accepted(_) => 0,
             Verdict::Refused { number, .. } => number,
         }
     }

@@ -3,8 +3,8 @@
 use std::hint::black_box;
 use std::time::Duration;
 
-use gate_tests::checker::{check, Verdict, CELLS_PER_NAME};
-use gate_tests::gate::{raw_check, raw_check_indexed};
+use gate_tests::checker::{check, Counts, Verdict, CELLS_PER_NAME};
+use gate_tests::gate::{raw_check, raw_check_indexed, Answer};
 
 use crate::clock::timed;
 use crate::lists::open_at_once;
@@ -12,8 +12,7 @@ use crate::lists::open_at_once;
 pub struct Given {
     pub model: Vec<u8>,
     pub list: Vec<u8>,
-    pub nodes: u64,
-    pub names: usize,
+    pub counts: Counts,
     /// As many as the model needs, and as many extra ones as the index can use for it.
     pub cells: usize,
     pub extra: usize,
@@ -21,16 +20,20 @@ pub struct Given {
 }
 
 impl Given {
-    /// The Rust checker says what is needed; each call of the proved check must count the same nodes and names.
+    /// The Rust checker says what is needed; each call of the proved check must count the same.
     pub fn new(model: Vec<u8>, list: Vec<u8>, seed: u64) -> Given {
-        let Verdict::Accepted { nodes, names } = check(&model, &list, usize::MAX) else {
+        let Verdict::Accepted(counts) = check(&model, &list, usize::MAX) else {
             panic!("a workload is refused: {:?}", check(&model, &list, usize::MAX));
         };
-        let names = names as usize;
+        let names = counts.names as usize;
         let cells = CELLS_PER_NAME * names;
         // With fewer than four for each cell it is 65. The visible names use four for each name and one, the lists the others.
         let extra = (4 * cells).max(4 * names + 2 + 4 * open_at_once(&model));
-        Given { model, list, nodes, names, cells, extra, seed }
+        Given { model, list, counts, cells, extra, seed }
+    }
+
+    fn accepts(&self, answer: Answer) {
+        assert_eq!(answer.verdict(), Ok(Verdict::Accepted(self.counts)));
     }
 
     /// Cells are lent as the call before left them: it makes no difference, since each call clears them itself.
@@ -39,7 +42,7 @@ impl Given {
         move || {
             let call = || raw_check_indexed(black_box(&self.model), &self.list, &mut cells, &mut extra, self.seed);
             let (taken, answer) = timed(call);
-            assert_eq!((answer.refusal, answer.nodes, answer.names), (0, self.nodes, self.names as u64));
+            self.accepts(answer);
             taken
         }
     }
@@ -48,7 +51,7 @@ impl Given {
         let mut cells = vec![0; self.cells];
         move || {
             let (taken, answer) = timed(|| raw_check(black_box(&self.model), &self.list, &mut cells));
-            assert_eq!((answer.refusal, answer.nodes, answer.names), (0, self.nodes, self.names as u64));
+            self.accepts(answer);
             taken
         }
     }

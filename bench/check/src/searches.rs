@@ -68,6 +68,18 @@ pub fn long_names(count: usize, _: u64) -> Vec<u8> {
     chain_of(&names.collect::<Vec<_>>(), false)
 }
 
+/// A chain with the names that PyTorch's exporter gives: no identifier among its outputs.
+pub fn exported(count: usize, _: u64) -> Vec<u8> {
+    let names = (0..count).map(|at| format!("/encoder/layer.{at}/MatMul_output_0"));
+    chain_of(&names.collect::<Vec<_>>(), false)
+}
+
+/// A chain whose names have 60 bytes, as in `long_names`: characters of two, three and four bytes, and then the digits.
+pub fn utf8_names(count: usize, _: u64) -> Vec<u8> {
+    let names = (0..count).map(|at| format!("кодировщ编码器层输出张量😀😀😀{at:08}"));
+    chain_of(&names.collect::<Vec<_>>(), false)
+}
+
 /// A chain whose names all share a bucket under the seed.
 pub fn crafted(count: usize, seed: u64) -> Vec<u8> {
     chain_of(&colliding(seed, count), false)

@@ -42,11 +42,13 @@ impl Workload {
 /// The one on which the command is measured too.
 pub const LARGEST: Workload = of("one initializer of 1.9 GB raw data", 1_900_000_000, |size, _| heavy(size, 0));
 
-pub const WORKLOADS: [Workload; 18] = [
+pub const WORKLOADS: [Workload; 22] = [
     Workload { size: None, ..of("small model, 6 nodes", 0, |_, _| small()) },
     of("chain of 20,000 nodes, unnamed", CHAIN, |size, _| chain(size, false)),
     of("chain of 20,000 nodes, named", CHAIN, |size, _| chain(size, true)),
     of("chain of 20,000 nodes, names of 60 bytes", CHAIN, searches::long_names),
+    of("chain of 20,000 nodes, names as exporters write them", CHAIN, searches::exported),
+    of("chain of 20,000 nodes, names of 60 bytes, not ASCII", CHAIN, searches::utf8_names),
     of("wide: 4,000 branches with weights into one sum", 4_000, |size, _| wide(size)),
     of("4,000 inputs with defaults", 4_000, searches::defaults),
     of("16,000 inputs with defaults", 16_000, searches::defaults),
@@ -57,7 +59,9 @@ pub const WORKLOADS: [Workload; 18] = [
     LARGEST,
     of("hostile: 4,000,000 unknown fields", 4_000_000, |size, _| unknown(size)),
     of("hostile: 10,000 nodes, 10,000 unknown fields among imports", 10_000, searches::imports).custom(),
-    of("hostile: one name of 10 MB", 10_000_000, |size, _| long_name(size)),
+    of("hostile: one name of 10 MB", 10_000_000, |size, _| long_name(&"n".repeat(size))),
+    of("hostile: one name of 10 MB, its last byte odd", 10_000_000, |size, _| long_name(&("n".repeat(size - 1) + "-"))),
+    of("hostile: one name of 10 MB, not ASCII", 10_000_000, |size, _| long_name(&"层".repeat(size / 3))),
     of("hostile: 20,000 named nodes, one visible name", CHAIN, |size, _| idle(size)),
     of("hostile: 20,000 names in one bucket, seed known", CHAIN, searches::crafted),
     Workload { other_seed: true, ..of("hostile: the same 20,000 names, another seed", CHAIN, searches::crafted) },
@@ -243,14 +247,13 @@ fn unknown(fields: usize) -> Vec<u8> {
 }
 
 /// A name that is bound, read by a node, and read as the graph's output.
-fn long_name(bytes: usize) -> Vec<u8> {
-    let long = "n".repeat(bytes);
+fn long_name(long: &str) -> Vec<u8> {
     let graph = Tree::new(Message::Graph)
         .text(2, "long_name")
-        .tree(1, node("Relu", &["x"], &long))
-        .tree(1, node("Relu", &[&long], "y"))
+        .tree(1, node("Relu", &["x"], long))
+        .tree(1, node("Relu", &[long], "y"))
         .tree(11, value_info("x", FLOAT, &[1]));
-    model(graph.tree(12, value_info(&long, FLOAT, &[1])))
+    model(graph.tree(12, value_info(long, FLOAT, &[1])))
 }
 
 /// Named nodes that bind nothing, since all outputs of RNN may be left out: however few the cells, each node's name is

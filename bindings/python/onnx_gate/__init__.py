@@ -30,7 +30,7 @@ _MOST = 2**64 - 1  # of what crosses as 64 bits: ctypes would cut it
 
 @dataclass(frozen=True)
 class Answer:
-    """Accepted with two counts (`refusal` is 0), or refused with a number and a place, and 23 with a second one. What does not apply
+    """Accepted with three counts (`refusal` is 0), or refused with a number and a place, and 23 with a second one. What does not apply
     is 0. True where accepted."""
 
     refusal: int
@@ -40,6 +40,10 @@ class Answer:
     first: int
     """Refused with 23: where the name is defined that is already visible, in bytes as `place`; of an input with a default, the input's.
     It may lie behind `place`: fields are judged in another order than they stand in."""
+    odd: int
+    """Accepted: how many fields hold a name that is no identifier of C, as exporters write them: /encoder/MatMul_output_0. Counted is each
+    name of a graph, input, output, initializer, node and attribute, each op_type, input and output of a node, and each dim_param of the
+    main graph's inputs and outputs."""
 
     @property
     def accepted(self) -> bool:
@@ -60,7 +64,7 @@ class Answer:
 
     def __str__(self) -> str:
         if self.accepted:
-            return f"accepted nodes {self.nodes} names {self.names}"
+            return f"accepted nodes {self.nodes} names {self.names} odd {self.odd}"
         first = f" first {self.first}" if self.refusal == _ALREADY_VISIBLE else ""
         return f"refused {self.refusal} at {self.place}{first}"
 
@@ -110,7 +114,7 @@ def check_file(
     write to it afterwards does not reach `model`."""
     model = _files.read(path)
     found = check(model, operators, cells, seed=seed)
-    return CheckedFile(found.refusal, found.place, found.nodes, found.names, found.first, model if found else b"")
+    return CheckedFile(**vars(found), model=model if found else b"")
 
 
 def show_name(model: Bytes, start: int, length: int) -> bytes:
@@ -124,7 +128,7 @@ def show_name(model: Bytes, start: int, length: int) -> bytes:
 
 def _indexed(model: bytes, operators: bytes, cells: int, extra: int, seed: int) -> Answer:
     found = _library.check_indexed(model, operators, cells, extra, seed)
-    return Answer(found.refusal, found.place, found.nodes, found.names, found.first)
+    return Answer(found.refusal, found.place, found.nodes, found.names, found.first, found.odd)
 
 
 def _sized(model: bytes, operators: bytes, limit: int, seed: int) -> Answer:

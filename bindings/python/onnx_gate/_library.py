@@ -9,7 +9,7 @@ _FEW = 1 << 20  # cells, of 4 MiB: an array for them is quicker than a mapping
 
 
 class Answered(ctypes.Structure):
-    _fields_ = [(name, ctypes.c_uint64) for name in ("refusal", "place", "nodes", "names", "first")]
+    _fields_ = [(name, ctypes.c_uint64) for name in ("refusal", "place", "nodes", "names", "first", "odd")]
 
 
 class Part(ctypes.Structure):

@@ -19,7 +19,7 @@ RULES = {
     15: ("functions-present", "the model has functions of its own"),
     16: ("sparse-initializer", "a graph has a sparse_initializer"),
     20: ("graph-name-empty", "a graph must have a name"),
-    21: ("not-identifier", "not an identifier: a letter or underscore, then letters, digits and underscores, ASCII only"),
+    21: ("not-utf8", "not well-formed UTF-8, or an empty dim_param"),
     22: ("name-empty", "an input, initializer, output or attribute must have a name"),
     23: ("already-visible", "the name is already defined and visible here"),
     24: ("no-tensor-type", "an input or output of the main graph must have a tensor type"),

@@ -33,18 +33,22 @@ pub const LARGEST_MODEL: usize = 2_147_483_647;
 /// The cells that a visible name takes, for its place and its length: an odd cell is of no use.
 pub const CELLS_PER_NAME: usize = 2;
 
-/// The two counts of an acceptance.
+/// The three counts of an acceptance.
 #[derive(Clone, Copy, Debug, PartialEq, Eq)]
 pub struct Accepted {
     /// Nodes in all graphs.
     pub nodes: u64,
     /// The largest number of names visible together.
     pub names: u64,
+    /// Fields with a name that is no identifier of C, as exporters write them: `/encoder/MatMul_output_0`. Counted is each
+    /// name of a graph, input, output, initializer, node and attribute, each op_type, input and output of a node, and each
+    /// dim_param of the main graph's inputs and outputs.
+    pub odd: u64,
 }
 
 impl fmt::Display for Accepted {
     fn fmt(&self, f: &mut fmt::Formatter<'_>) -> fmt::Result {
-        write!(f, "accepted nodes {} names {}", self.nodes, self.names)
+        write!(f, "accepted nodes {} names {} odd {}", self.nodes, self.names, self.odd)
     }
 }
 
@@ -56,6 +60,7 @@ struct Answer {
     nodes: u64,
     names: u64,
     first: u64,
+    odd: u64,
 }
 
 #[repr(C)]
@@ -90,7 +95,7 @@ extern "C" {
 impl Answer {
     fn told(self) -> Result<Accepted, Refusal> {
         match self.refusal {
-            0 => Ok(Accepted { nodes: self.nodes, names: self.names }),
+            0 => Ok(Accepted { nodes: self.nodes, names: self.names, odd: self.odd }),
             number => {
                 let first = Some(self.first as usize).filter(|_| number == ALREADY_VISIBLE);
                 Err(Refusal { number, place: self.place as usize, first })

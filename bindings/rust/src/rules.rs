@@ -31,7 +31,7 @@ pub const RULES: [Rule; 36] = [
     of(15, "functions-present", "the model has functions of its own"),
     of(16, "sparse-initializer", "a graph has a sparse_initializer"),
     of(20, "graph-name-empty", "a graph must have a name"),
-    of(21, "not-identifier", "not an identifier: a letter or underscore, then letters, digits and underscores, ASCII only"),
+    of(21, "not-utf8", "not well-formed UTF-8, or an empty dim_param"),
     of(22, "name-empty", "an input, initializer, output or attribute must have a name"),
     of(23, "already-visible", "the name is already defined and visible here"),
     of(24, "no-tensor-type", "an input or output of the main graph must have a tensor type"),

@@ -81,9 +81,9 @@ fn samples_of_document_01() {
     assert_eq!(line("00", 0), "refused 3 at 0");
     assert_eq!(line("0A", 0), "refused 4 at 0");
     assert_eq!(line("08 08 08 08", 0), "refused 5 at 2");
-    assert_eq!(line("08 08 42 02 10 0D 3A 03 12 01 67", 0), "accepted nodes 0 names 0");
+    assert_eq!(line("08 08 42 02 10 0D 3A 03 12 01 67", 0), "accepted nodes 0 names 0 odd 0");
     for cells in [2, 3, 9] {
-        assert_eq!(line(m1, cells), "accepted nodes 1 names 1");
+        assert_eq!(line(m1, cells), "accepted nodes 1 names 1 odd 0");
     }
     let reader = "08 08 42 02 10 0D 3A 0E 12 01 67 0A 09 0A 01 61 12 01 61 22 01 58";
     let twice = "08 08 42 02 10 0D 3A 0E 12 01 67 0A 09 12 01 61 12 01 61 22 01 58";
@@ -125,21 +125,44 @@ fn both_definitions() {
         }
         assert_eq!(check(&model, &list()), expected, "{what}");
     }
-    assert_eq!(check(&model(&[&default, &input]), &list()), Ok(Accepted { nodes: 0, names: 1 }));
-    assert_eq!(check(&model(&[&outer, &inner]), &list()), Ok(Accepted { nodes: 3, names: 2 }));
+    assert_eq!(check(&model(&[&default, &input]), &list()), Ok(Accepted { nodes: 0, names: 1, odd: 0 }));
+    assert_eq!(check(&model(&[&outer, &inner]), &list()), Ok(Accepted { nodes: 3, names: 2, odd: 0 }));
+}
+
+/// Names that are no identifiers are counted where they stand, and only bytes that are no UTF-8 are refused.
+#[test]
+fn odd_names() {
+    let graph = |length: &str, more: &str| line(&format!("08 08 42 02 10 0D 3A {length} 12 01 67 {more}"), 4);
+    let output = |name: &str| graph("0B", &format!("0A 06 12 01 {name} 22 01 58"));
+    for name in ["39", "2F", "2D", "00", "7F"] {
+        assert_eq!(output(name), "accepted nodes 1 names 1 odd 1", "{name}");
+    }
+    for name in ["5F", "41", "7A"] {
+        assert_eq!(output(name), "accepted nodes 1 names 1 odd 0", "{name}");
+    }
+    for name in ["80", "BF", "C3", "F5", "FF"] {
+        assert_eq!(output(name), "refused 21 at 13", "{name}");
+    }
+    let exported = "0A 06 12 01 2F 22 01 58 0A 08 0A 01 2F 12 00 22 01 58";
+    assert_eq!(graph("15", exported), "accepted nodes 2 names 1 odd 2", "a read counts too");
+    let dim = "5A 10 0A 01 77 12 0B 0A 09 08 01 12 05 0A 03 12 01 2D";
+    assert_eq!(graph("15", dim), "accepted nodes 0 names 1 odd 1");
+    assert_eq!(graph("14", "5A 0F 0A 01 77 12 0A 0A 08 08 01 12 04 0A 02 12 00"), "refused 21 at 26");
+    assert_eq!(graph("0C", "0A 07 12 02 C3 A9 22 01 58"), "accepted nodes 1 names 1 odd 1", "é");
+    assert_eq!(graph("0C", "0A 07 12 02 C0 AF 22 01 58"), "refused 21 at 13", "a longer form of a slash");
 }
 
 /// A second place is told with 23 alone, whatever the other numbers are.
 #[test]
 fn first_is_of_23() {
     for number in (1..=100).chain([u64::MAX]) {
-        let told = Answer { refusal: number, place: 5, nodes: 0, names: 0, first: 7 }.told();
+        let told = Answer { refusal: number, place: 5, nodes: 0, names: 0, first: 7, odd: 0 }.told();
         assert_eq!(told, Err(Refusal { number, place: 5, first: Some(7).filter(|_| number == 23) }));
     }
-    let odd = Answer { refusal: 23, place: u64::MAX, nodes: 1, names: 2, first: 0 }.told().unwrap_err();
-    assert_eq!(odd.to_string(), format!("refused 23 at {} first 0", usize::MAX));
-    let accepted = Answer { refusal: 0, place: 1, nodes: 2, names: 3, first: 4 }.told();
-    assert_eq!(accepted, Ok(Accepted { nodes: 2, names: 3 }));
+    let strange = Answer { refusal: 23, place: u64::MAX, nodes: 1, names: 2, first: 0, odd: 3 }.told().unwrap_err();
+    assert_eq!(strange.to_string(), format!("refused 23 at {} first 0", usize::MAX));
+    let accepted = Answer { refusal: 0, place: 1, nodes: 2, names: 3, first: 4, odd: 5 }.told();
+    assert_eq!(accepted, Ok(Accepted { nodes: 2, names: 3, odd: 5 }));
 }
 
 /// A tag, a value and a length, in a message that is opened and of unknown fields; behind each the same in its shortest form.
@@ -159,10 +182,10 @@ fn padded_varints() {
         (sound("98 06 FF FF FF FF FF FF FF FF FF 00"), 11, sound("98 06 FF FF FF FF FF FF FF FF 7F")),
     ] {
         assert_eq!(line(&padded, 0), format!("refused 9 at {place}"), "{padded}");
-        assert_eq!(line(&shortest, 0), "accepted nodes 0 names 0", "{shortest}");
+        assert_eq!(line(&shortest, 0), "accepted nodes 0 names 0 odd 0", "{shortest}");
     }
     let longest = sound("98 06 FF FF FF FF FF FF FF FF FF 01");
-    assert_eq!(line(&longest, 0), "accepted nodes 0 names 0", "ten bytes that are needed");
+    assert_eq!(line(&longest, 0), "accepted nodes 0 names 0 odd 0", "ten bytes that are needed");
 }
 
 /// After 1 and 2 of the same varint and before the field's next rule.
@@ -205,7 +228,7 @@ fn too_few_extra_cells_come_before_all() {
     let m1 = bytes("08 08 42 02 10 0D 3A 0B 12 01 67 0A 06 12 01 61 22 01 58");
     for count in [2, 3, 9] {
         assert_eq!(indexed(&m1, count, 4 * count - 1, 7), too_few);
-        assert_eq!(indexed(&m1, count, 4 * count, 7), Ok(Accepted { nodes: 1, names: 1 }));
+        assert_eq!(indexed(&m1, count, 4 * count, 7), Ok(Accepted { nodes: 1, names: 1, odd: 0 }));
     }
     assert_eq!((indexed(&m1, 1, 3, 7), indexed(&m1, 1, 4, 7)), (too_few, Err(refused(40, 13))));
     assert_eq!(indexed(&m1, 3, 0, 7), too_few);

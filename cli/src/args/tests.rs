@@ -14,9 +14,23 @@ fn list_of(words: &str) -> Vec<u8> {
 #[test]
 fn a_check() {
     let Ok(Command::Check(c)) = parsed("check --cells 5 --json -- --b.onnx a.onnx -") else { panic!() };
-    assert_eq!((c.terms.cells, c.terms.seed, c.json, c.quiet), (Some(5), None, true, false));
+    assert_eq!((c.terms.cells, c.terms.seed), (Some(5), None));
+    assert_eq!(c.form, Form { json: true, ..Form::default() });
     assert_eq!(c.models, ["--b.onnx", "a.onnx", "-"]);
     assert_eq!(c.terms.operators, Operators::List(operators::write(&DEFAULT).unwrap()));
+}
+
+#[test]
+fn forms() {
+    for (words, json, quiet, odd) in [
+        ("check m", false, false, false),
+        ("check --quiet m", false, true, false),
+        ("check --odd m", false, false, true),
+        ("check --odd --json m", true, false, true),
+    ] {
+        let Ok(Command::Check(c)) = parsed(words) else { panic!("{words}") };
+        assert_eq!(c.form, Form { json, quiet, odd }, "{words}");
+    }
 }
 
 #[test]
@@ -95,6 +109,10 @@ fn bad_usage_is_told() {
         "check --operators - -",
         "check - -",
         "check --json -q a",
+        "check --odd -q a",
+        "check --odd=1 m",
+        "check --odd",
+        "pass --odd a",
         "check --cells 1 --cells 1 a",
         "check --seed 1 --seed 1 a",
         "check --operators a --operators a b",
@@ -129,6 +147,8 @@ fn file_names_are_no_options() {
         "check --cells=1.onnx a.onnx",
         "check --json.onnx a.onnx",
         "check --json=.onnx a.onnx",
+        "check --odd=.onnx a.onnx",
+        "check a.onnx --odd",
         "check -q.onnx a.onnx",
         "check a.onnx --json",
         "check a.onnx -q",

@@ -2,6 +2,7 @@
 //! the file would go unchecked, or others would be judged by other rules. Where a word may be either, nothing is done.
 use super::{values, Command};
 use crate::folders::is_model_name;
+use crate::output::Form;
 use crate::{help, text};
 use std::ffi::{OsStr, OsString};
 use std::os::unix::ffi::OsStrExt;
@@ -23,8 +24,7 @@ pub struct Words {
     pub allowed: Vec<(String, u32, u32)>,
     pub cells: Option<usize>,
     pub seed: Option<u64>,
-    pub json: bool,
-    pub quiet: bool,
+    pub form: Form,
     pub rest: Vec<OsString>,
 }
 
@@ -100,9 +100,10 @@ impl Words {
             _ if !grammar.options.contains(&option) => {
                 return Err(format!("there is no option {} here. Try --help.", shown(word)));
             }
-            ("--json" | "-q" | "--quiet", Some(_)) => return Err(format!("{option} takes no value")),
-            ("--json", None) => self.json = true,
-            ("-q" | "--quiet", None) => self.quiet = true,
+            ("--json" | "--odd" | "-q" | "--quiet", Some(_)) => return Err(format!("{option} takes no value")),
+            ("--json", None) => self.form.json = true,
+            ("--odd", None) => self.form.odd = true,
+            ("-q" | "--quiet", None) => self.form.quiet = true,
             (_, Some(value)) => self.set(option, value)?,
             (_, None) => {
                 let value = more.next().ok_or_else(|| format!("{option} needs a value"))?;

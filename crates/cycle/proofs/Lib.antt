@@ -1,4 +1,5 @@
 pub mod BodyLaws
+pub mod CountLaws
 pub mod CycleLaws
 pub mod PromiseLaws
 pub mod GraphLaws

@@ -6,7 +6,7 @@ use mathlib.Core.Bool.{true, false}
 use lib.Dec.{T}
 use mathlib.Core.List.{List, []}
 use lib.ListN.{length}
-use Rattle.varint.specs.Outcome.{pass, _>>=_, _>>_, Judged, Rule, refused}
+use Rattle.varint.specs.Outcome.{pass, _>>=_, Judged, refused}
 use Rattle.varint.specs.declared.Refusal.{Refusal}
 use Rattle.wire.specs.declared.Field.{Field}
 use Rattle.varint.specs.Bytes.{Bytes}
@@ -18,17 +18,16 @@ use Rattle.varint.proofs.Answers.{says}
 use Rattle.varint.proofs.Passing.{fail-no-pass}
 use Rattle.rules.specs.Walk.{Walk}
 use Rattle.schema.specs.declared.Kind.{Kind}
-use Rattle.scope.specs.Scope.{walkIn, stepSays, standing, grows, Enters, counted, Keeps}
-use Rattle.values.specs.Answers.{rulingSays}
-use Rattle.values.specs.declared.Ruling.{Ruling}
-use Rattle.values.specs.declared.Ruling.the-variants as ruling
+use Rattle.scope.specs.Scope.{walkIn, stepSays, withOdd, counting, grows, Enters, counted, Keeps}
+use Rattle.values.specs.Answers.{tallySays}
+use Rattle.values.specs.declared.tallies.Tally.{Tally}
+use Rattle.values.specs.declared.tallies.Tally.the-variants as tally
 use Rattle.scope.specs.declared.scopes.Progress.{Progress}
 use Rattle.scope.specs.declared.scopes.Step.{Step}
 use Rattle.scope.specs.declared.scopes.Step.the-variants as step
 use Rattle.scope.proofs.ScopeLaws.{keeps-all}
-use Rattle.scope.proofs.StepLaws.{Adder}
+use Rattle.scope.proofs.StepLaws.{Adder, counting-says}
 use Rattle.cycle.proofs.CycleLaws.{Going, going-few, going-done, going-stops}
-use Rattle.values.proofs.RulingLaws.{ruled-kept, ruled-refused}
 
 -- What each of the three promises of its answer r to the field f, where the cells were `cells` and are `later`.
 pub record Promised (model : Bytes) (o : Judged Walk) (cells later : List ℕ) (p : Progress) (f : Field) (r : Step) : Type 0 where
@@ -71,6 +70,54 @@ pub refused-bind : (model : Bytes) (last : List ℕ) {s : Step} {o : Judged Walk
 unfolding stepSays _>>=_
 refused-bind model last after e k = ap (stepSays model last) k ∙ ap (λ (o : Judged Walk). o >>= after) (says (stepSays model last) e k)
 
+-- ---- a rule that tests names and adds none, after the rest
+
+pub counting-more : (p q : Progress) (t : Tally) → grows p (step.Went q) → grows p (counting q t)
+unfolding counting withOdd grows
+counting-more p q (tally.Counted k) h = h
+counting-more p q (tally.Refused x) h = tt
+
+pub counting-counts : (f : Field) (p q : Progress) (t : Tally) → q .nodes + f .place ≤ p .nodes + f .next → counted f p (counting q t)
+unfolding counting withOdd counted
+counting-counts f p q (tally.Counted k) h = h
+counting-counts f p q (tally.Refused x) h = tt
+
+pub used-more : (p q : Progress) → grows p (step.Went q) → p .used ≤ q .used
+unfolding grows
+used-more p q h = h
+
+-- ---- a rule that tests names and adds none, before the rest: s is the step of its tally
+
+module _ (model : Bytes) (cells : List ℕ) (p : Progress) {o : Judged Walk} (rest : Walk → Judged Walk) (t : Tally)
+    (ruled : tallySays (walkIn model cells p) t ≡ o) {s : Step} (stepped : s ≡ counting p t) where
+  pub headed : {u : Step} → s ≡ u → stepSays model cells u ≡ o
+  headed e = ap (stepSays model cells) (sym e ∙ stepped) ∙ counting-says model cells p t ∙ ruled
+
+  pub headed-stops : {f : Field} {x : Refusal} → s ≡ step.Refused x → Promised model (o >>= rest) cells cells p f s
+  headed-stops k = refusing model p k (refused-bind model cells rest (headed refl) k) (keeps-all _ _)
+
+  pub headed-goes : {first : Progress} → s ≡ step.Went first → rest (walkIn model cells first) ≡ (o >>= rest)
+  unfolding stepSays _>>=_
+  headed-goes k = ap (λ (u : Judged Walk). u >>= rest) (headed k)
+
+-- what is promised from there on is promised from the start
+module _ {p first : Progress} (used : first .used ≡ p .used) (nodes : first .nodes ≡ p .nodes) where
+  pub enters-first : {model : Bytes} {kind : Kind} {f : Field} → Enters model kind p f → Enters model kind first f
+  enters-first n = record { short = n .short; walked = n .walked; tagged = n .tagged; ends = n .ends; few = rw nodes (n .few) }
+
+  pub promised-first : {model : Bytes} {o : Judged Walk} {cells later : List ℕ} {f : Field} {r : Step}
+      → Promised model o cells later first f r → Promised model o cells later p f r
+  unfolding grows counted
+  promised-first {f = f} {r = r} a = record { answer = a .answer; grown = from r (a .grown); counts = count f r (a .counts); kept = rw used at (a .kept) }
+    where
+      from : (s : Step) → grows first s → grows p s
+      from (step.Went u) h = omega arith
+      from (step.Refused x) h = tt
+
+      count : (f : Field) (s : Step) → counted f first s → counted f p s
+      count f (step.Went u) h = omega arith
+      count f (step.Refused x) h = tt
+
 -- the walk stays where it is
 pub staying : (model : Bytes) {o : Judged Walk} {cells : List ℕ} (p : Progress) {f : Field}
     → {kind : Kind} → Enters model kind p f → pass (walkIn model cells p) ≡ o
@@ -78,46 +125,10 @@ pub staying : (model : Bytes) {o : Judged Walk} {cells : List ℕ} (p : Progress
 unfolding stepSays grows counted
 staying model p n e = record { answer = e; grown = omega arith; counts = (let a = n .tagged in let b = n .ends in omega arith); kept = keeps-all _ _ }
 
--- ---- a rule that adds no name, after the rest
-
-pub standing-says : (model : Bytes) (cells : List ℕ) (q : Progress) (r : Ruling) → stepSays model cells (standing q r) ≡ (rulingSays r >> pass (walkIn model cells q))
-unfolding standing stepSays rulingSays _>>_
-standing-says model cells q ruling.Kept = refl
-standing-says model cells q (ruling.Refused x) = refl
-
-pub standing-grows : (p q : Progress) (r : Ruling) → grows p (step.Went q) → grows p (standing q r)
-unfolding standing grows
-standing-grows p q ruling.Kept h = h
-standing-grows p q (ruling.Refused x) h = tt
-
-pub standing-counts : (f : Field) (p q : Progress) (r : Ruling) → q .nodes + f .place ≤ p .nodes + f .next → counted f p (standing q r)
-unfolding standing counted
-standing-counts f p q ruling.Kept h = h
-standing-counts f p q (ruling.Refused x) h = tt
-
-pub used-more : (p q : Progress) → grows p (step.Went q) → p .used ≤ q .used
-unfolding grows
-used-more p q h = h
-
--- ---- a rule that adds no name, before the rest
-
-module _ (model : Bytes) {rule : Rule} (rest : Judged Walk) (r : Ruling) (ruled : rulingSays r ≡ rule) where
-  pub ruled-stops : {cells : List ℕ} (p : Progress) {f : Field} {x : Refusal}
-      → r ≡ ruling.Refused x → {s : Step} → s ≡ standing p r
-      → Promised model (rule >> rest) cells cells p f s
-  unfolding standing stepSays _>>_
-  ruled-stops {cells} p {f} {x} k {s} e =
-      let q : s ≡ step.Refused x = e ∙ ap (standing p) k in
-      refusing model p q (ap (stepSays model cells) q ∙ ap (λ (o : Rule). o >> rest) (sym (ruled-refused ruled k))) (keeps-all _ _)
-
-  pub ruled-goes : r ≡ ruling.Kept → rest ≡ (rule >> rest)
-  unfolding _>>_
-  ruled-goes k = ap (λ (o : Rule). o >> rest) (sym (ruled-kept ruled k))
-
 -- ---- the ways out of a loop over the fields of f, where the whole of it answers o
 
-module _ {model : Bytes} {number : ℕ} {rule : Adder} {o : Judged Walk} {first : List ℕ} {p : Progress} {cells : List ℕ} {q : Progress} {c : Cursor} {f : Field}
-    (g : Going model number (f .next) (f .start) rule o first p cells q c) {a : Sought} (read : soughtSays a ≡ soughtIn model number (c .end) (c .at)) where
+module _ {model : Bytes} {number : ℕ} {names : Field → List Bytes} {rule : Adder} {o : Judged Walk} {first : List ℕ} {p : Progress} {cells : List ℕ} {q : Progress} {c : Cursor} {f : Field}
+    (g : Going model number (f .next) (f .start) names rule o first p cells q c) {a : Sought} (read : soughtSays a ≡ soughtIn model number (c .end) (c .at)) where
   pub loop-done : {kind : Kind} → Enters model kind p f → a ≡ sought.Missing → {t : Judged Walk} → o ≡ t → Promised model t first cells p f (step.Went q)
   unfolding counted
   loop-done n e k =

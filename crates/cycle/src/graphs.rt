@@ -4,11 +4,12 @@ ghost use mathlib.Core.Path.{_≡_};
 ghost use mathlib.Core.Bool.{true, false};
 ghost use lib.ListN.{length, drop};
 ghost use Rattle.rules.specs.Verdict.{fills};
+ghost use Rattle.rules.specs.Count.{attributeNames, nodeNames, namesIn};
 ghost use Rattle.schema.specs.declared.Kind.the-variants.{Graph, Node, Attribute};
 ghost use Rattle.schema.specs.Numbers.{Graph·node, Node·name, Node·attribute, Attribute·name};
 ghost use Rattle.index.specs.Listing.{Listed};
 ghost use Rattle.headers.specs.Earlier.{earlierIn};
-ghost use Rattle.scope.specs.Scope.{walkIn, stepSays, grows, counted, Enters, Keeps};
+ghost use Rattle.scope.specs.Scope.{walkIn, stepSays, grows, counted, Enters, Countable, Keeps};
 ghost use Rattle.scope.specs.Recall.{Minds, Minded};
 ghost use Rattle.messages.specs.Again.{attributeAgain, nodeAgain, graphAgain};
 use index::Listing;
@@ -20,9 +21,9 @@ use parts::opening;
 use scope::Index;
 use scope::Progress;
 use scope::Step;
+use scope::counting;
 use scope::leaving;
 use scope::list;
-use scope::standing;
 use scope::stopped;
 use values::Ruling;
 use values::carrier_of;
@@ -50,6 +51,7 @@ pub fn graph(
     requires { ⌜ Enters (now model) Graph p f ⌝ }
     requires { ⌜ Minds (now model) ix top (now cells) (now extra) ⌝ }
     requires { ⌜ (main ≡ true → p .used ≡ 0) ⌝ }
+    requires { ⌜ Countable p (namesIn (now model) left main f) ⌝ }
     ensures answer { λ r. ⌜ stepSays (now (model .entry)) (now (cells .exit)) r ≡ graphAgain (now (model .entry)) (fills (length (now (cells .entry)))) left main (walkIn (now (model .entry)) (now (cells .entry)) p) f ⌝ }
     ensures grown { λ r. ⌜ grows p r ⌝ }
     ensures counts { λ r. ⌜ counted f p r ⌝ }
@@ -73,7 +75,7 @@ pub fn graph(
     loop {
         let sought = c.next_of(model, GRAPH_NODE);
         let Sought::Found(n, next) = sought else {
-            return standing(q, graph_outputs(model, cells, extra, ix, q.used, main, f));
+            return counting(q, graph_outputs(model, cells, extra, ix, q.used, main, f));
         };
         let step = node(model, cells, extra, ix, l, left - 1, f, q, n);
         let Step::Went(further) = step else {
@@ -100,18 +102,19 @@ fn node(
     requires { ⌜ Enters (now model) Node p f ⌝ }
     requires { ⌜ Minds (now model) ix (l .top) (now cells) (now extra) ⌝ }
     requires { ⌜ Listed (now model) (ix .seed) (drop (ix .split) (now extra)) l (earlierIn (now model) Graph·node Node·name graph f) ⌝ }
+    requires { ⌜ Countable p (nodeNames (now model) (namesIn (now model) left false) f) ⌝ }
     ensures answer { λ r. ⌜ stepSays (now (model .entry)) (now (cells .exit)) r ≡ nodeAgain (now (model .entry)) (fills (length (now (cells .entry)))) (λ v g. graphAgain (now (model .entry)) (fills (length (now (cells .entry)))) left false v g) graph (walkIn (now (model .entry)) (now (cells .entry)) p) f ⌝ }
     ensures grown { λ r. ⌜ grows p r ⌝ }
     ensures counts { λ r. ⌜ counted f p r ⌝ }
     ensures kept { λ _. ⌜ Keeps (p .used) (now (cells .entry)) (now (cells .exit)) ⌝ }
     ensures memory { λ _. ⌜ Minded (now (model .entry)) ix (l .top) (now (cells .exit)) (now (extra .entry)) (now (extra .exit)) ⌝ }
 {
-    let ruling = node_rules(model, cells, extra, ix, l, p.used, graph, f);
-    let Ruling::Kept = ruling else {
-        return standing(p, ruling);
+    let headed = counting(p, node_rules(model, cells, extra, ix, l, p.used, graph, f));
+    let Step::Went(first) = headed else {
+        return headed;
     };
     let mut c = f.contents();
-    let mut q = p;
+    let mut q = first;
     let mut own = Listing {
         base: l.top,
         top: l.top,
@@ -147,22 +150,23 @@ fn attribute(
     requires { ⌜ Enters (now model) Attribute p f ⌝ }
     requires { ⌜ Minds (now model) ix (l .top) (now cells) (now extra) ⌝ }
     requires { ⌜ Listed (now model) (ix .seed) (drop (ix .split) (now extra)) l (earlierIn (now model) Node·attribute Attribute·name n f) ⌝ }
+    requires { ⌜ Countable p (attributeNames (now model) (namesIn (now model) left false) f) ⌝ }
     ensures answer { λ r. ⌜ stepSays (now (model .entry)) (now (cells .exit)) r ≡ attributeAgain (now (model .entry)) (fills (length (now (cells .entry)))) (λ v g. graphAgain (now (model .entry)) (fills (length (now (cells .entry)))) left false v g) n (walkIn (now (model .entry)) (now (cells .entry)) p) f ⌝ }
     ensures grown { λ r. ⌜ grows p r ⌝ }
     ensures counts { λ r. ⌜ counted f p r ⌝ }
     ensures kept { λ _. ⌜ Keeps (p .used) (now (cells .entry)) (now (cells .exit)) ⌝ }
     ensures memory { λ _. ⌜ Minded (now (model .entry)) ix (l .top) (now (cells .exit)) (now (extra .entry)) (now (extra .exit)) ⌝ }
 {
-    let ruling = attribute_head(model, extra, ix, l, n, f);
-    let Ruling::Kept = ruling else {
-        return standing(p, ruling);
+    let headed = counting(p, attribute_head(model, extra, ix, l, n, f));
+    let Step::Went(first) = headed else {
+        return headed;
     };
     let number = carrier_of(f.number_of(model, ATTRIBUTE_TYPE));
     if !is_body(number) {
-        return Step::Went(p);
+        return Step::Went(first);
     }
     let mut c = f.contents();
-    let mut q = p;
+    let mut q = first;
     loop {
         let sought = c.next_of(model, number);
         let Sought::Found(g, next) = sought else {

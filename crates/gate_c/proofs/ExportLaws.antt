@@ -23,11 +23,12 @@ use Rattle.gate_c.specs.declared.GatePart.{GatePart}
 use Rattle.gate_c.specs.Exports.{outcome, shownAt}
 
 module _ {o : Judged Counts} {r : Answer} (checked : meaning r ≡ o) where
-  pub outcome-accepted : {nodes names : ℕ} → r ≡ answer.Accepted nodes names → record { refusal = 0; place = 0; nodes = nodes; names = names; first = 0 } ≡ outcome o
+  pub outcome-accepted : {nodes names odd : ℕ} → r ≡ answer.Accepted nodes names odd
+      → record { refusal = 0; place = 0; nodes = nodes; names = names; first = 0; odd = odd } ≡ outcome o
   unfolding outcome meaning
   outcome-accepted e = ap outcome (says meaning checked e)
 
-  pub outcome-refused : {q : Refusal} → r ≡ answer.Refused q → record { refusal = q .number; place = q .place; nodes = 0; names = 0; first = q .first } ≡ outcome o
+  pub outcome-refused : {q : Refusal} → r ≡ answer.Refused q → record { refusal = q .number; place = q .place; nodes = 0; names = 0; first = q .first; odd = 0 } ≡ outcome o
   unfolding outcome meaning
   outcome-refused e = ap outcome (says meaning checked e)
 
@@ -62,10 +63,14 @@ module _ (model : Bytes) where
 -- a refusal of 0 says that the model is accepted, since no number of document 01 is 0
 pub none-accepts : (model list : Bytes) (cells : ℕ) → outcome (verdict model list cells) .refusal ≡ 0
     → verdict model list cells
-    ≡ pass (record { nodes = outcome (verdict model list cells) .nodes; names = outcome (verdict model list cells) .names })
+    ≡ pass (record {
+      nodes = outcome (verdict model list cells) .nodes;
+      names = outcome (verdict model list cells) .names;
+      odd = outcome (verdict model list cells) .odd;
+    })
 unfolding outcome contains RefusedProperly
 none-accepts model list cells e = go (verdict model list cells) refl e
   where
-    go : (o : Judged Counts) → verdict model list cells ≡ o → outcome o .refusal ≡ 0 → o ≡ pass (record { nodes = outcome o .nodes; names = outcome o .names })
+    go : (o : Judged Counts) → verdict model list cells ≡ o → outcome o .refusal ≡ 0 → o ≡ pass (record { nodes = outcome o .nodes; names = outcome o .names; odd = outcome o .odd })
     go (pass c) v z = refl
     go (fail r) v z = absurd (rw z at (refusedProperly model list cells r v .0))

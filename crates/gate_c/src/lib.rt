@@ -16,6 +16,7 @@ pub struct GateAnswer {
     pub nodes: u64,
     pub names: u64,
     pub first: u64,
+    pub odd: u64,
 }
 
 // Bytes of the model.
@@ -29,12 +30,13 @@ fn in_numbers(answer: Answer) -> GateAnswer
     ensures { λ r. ⌜ r ≡ outcome (meaning answer) ⌝ }
 {
     match answer {
-        Answer::Accepted { nodes, names } => GateAnswer {
+        Answer::Accepted { nodes, names, odd } => GateAnswer {
             refusal: 0,
             place: 0,
             nodes: nodes,
             names: names as u64,
             first: 0,
+            odd: odd,
         },
         Answer::Refused(r) => GateAnswer {
             refusal: r.number as u64,
@@ -42,6 +44,7 @@ fn in_numbers(answer: Answer) -> GateAnswer
             nodes: 0,
             names: 0,
             first: r.first as u64,
+            odd: 0,
         },
     }
 }

@@ -1,114 +1,141 @@
 -- What is asked of a node by itself, in the order of the code's tests.
-use Prim.Native.Nat.{ℕ}
-use mathlib.Core.Path.{_≡_, refl, sym, ap, _∙_}
+use Prim.Native.Nat.{ℕ, _+_, _≤_}
+use mathlib.Core.Path.{_≡_, sym, ap, _∙_}
 use mathlib.Core.Bool.{Bool, true, false, not}
 use mathlib.Core.List.{List, [], _∷_}
 use mathlib.Core.Option.{Option, none, some}
 use lib.ListN.{length}
-use Rattle.varint.specs.Outcome.{pass, _>>=_, _>>_, Judged, Rule, refused, refuse_at:_when:_}
+use Rattle.varint.specs.Outcome.{pass, _>>=_, _>>_, Judged, refused, refuse_at:_when:_}
 use Rattle.wire.specs.declared.Field.{Field}
 use Rattle.varint.specs.Lists.{isEmpty}
 use Rattle.varint.specs.Bytes.{Bytes, member}
 use Rattle.wire.specs.Message.{firstOf, placeOf, text, bytesOf, message}
 use Rattle.varint.specs.declared.Refusal.{Refusal}
-use Rattle.varint.proofs.Refusing.{when-broken, when-kept, broken, kept}
+use Rattle.varint.proofs.Refusing.{when-broken, when-kept}
+use Rattle.varint.proofs.Tells.{Tells, Any, tells-bind}
 use Rattle.operators.specs.Operators.{domain}
 use Rattle.schema.specs.Numbers.{Graph·node, Node·name, Node·op-type, Node·domain}
-use Rattle.schema.specs.Answers.{silent}
-use Rattle.rules.specs.Identifier.{identifier}
-use Rattle.rules.specs.Names.{Name}
+use Rattle.rules.specs.Names.{nameOf}
+use Rattle.rules.specs.Walk.{Walk, Along, tested, naming}
 use Rattle.rules.specs.Node.{nodeName}
+use Rattle.rules.specs.Count.{odds}
+use Rattle.rules.proofs.Rules.{Adds}
+use Rattle.rules.proofs.Counting.{grew-name}
 use Rattle.headers.specs.Imports.{importsIn}
-use Rattle.values.specs.Answers.{namingSays, nameField}
 use Rattle.headers.specs.Earlier.{earlierIn}
-use Rattle.messages.specs.Heads.{nodeHead}
+use Rattle.values.specs.Answers.{more, tallySays, namingSays, nameField, tallyOf, adding}
 use Rattle.values.specs.declared.names.Naming.{Naming}
 use Rattle.values.specs.declared.names.Naming.the-variants as naming-answer
-use Rattle.values.proofs.NameLaws.{empty-none, empty-some, nameSays, naming-says}
-use Rattle.headers.proofs.Silent.{silent-rule, silent-last}
+use Rattle.values.specs.declared.tallies.Tally.{Tally}
+use Rattle.values.specs.declared.tallies.Tally.the-variants as tally
+use Rattle.values.proofs.TallyLaws.{more-none, tallied, untallied, tally-few, adding-says}
+use Rattle.values.proofs.NameLaws.{empty-none, empty-some, named-fails, named-passes, named-tally}
+use Rattle.messages.specs.Heads.{walkOf, nodeHead}
 
-module _ (model : Bytes) (earlier : List Bytes) (m : Field) where
+module _ (model : Bytes) (earlier : List Bytes) (m : Field) (w : Walk) where
   -- the rule on a name and its place
-  Ruled : Bytes → ℕ → Judged (List Bytes)
-  Ruled x p = elim (isEmpty x) [ true ↦ pass earlier | false ↦ (refuse 21 at: p when: not (identifier x) >> (refuse 29 at: p when: member x earlier >> pass (x ∷ earlier))) ]
+  Stands : Bytes → ℕ → Judged Walk → Judged Along
+  Stands x p o = o >>= λ v. refuse 29 at: p when: member x earlier >> pass (record { walk = v; earlier = x ∷ earlier })
+
+  Ruled : Bytes → ℕ → Judged Along
+  Ruled x p = elim (isEmpty x) [ true ↦ pass (record { walk = w; earlier = earlier }) | false ↦ Stands x p (tested w (record { bytes = x; place = p })) ]
+
+  abbrev Name? : Judged Walk
+  Name? = walkOf (nodeName model earlier w (message model m))
 
   ruled : {o : Option Field} → o ≡ firstOf Node·name (message model m)
-      → silent (Ruled (elim o [ none ↦ [] | some f ↦ text model f ]) (elim o [ none ↦ m .place | some f ↦ f .place ]))
-      ≡ silent (nodeName model earlier (message model m))
-  unfolding nodeName bytesOf placeOf message Ruled
-  ruled k = ap (λ (o : Option Field). silent (Ruled (elim o [ none ↦ [] | some f ↦ text model f ]) (elim o [ none ↦ m .place | some f ↦ f .place ]))) k
+      → walkOf (Ruled (elim o [ none ↦ [] | some f ↦ text model f ]) (elim o [ none ↦ m .place | some f ↦ f .place ])) ≡ Name?
+  unfolding nodeName nameOf bytesOf placeOf message Ruled Stands
+  ruled k = ap (λ (o : Option Field). walkOf (Ruled (elim o [ none ↦ [] | some f ↦ text model f ]) (elim o [ none ↦ m .place | some f ↦ f .place ]))) k
 
-  pub node-nameless : none ≡ firstOf Node·name (message model m) → pass tt ≡ silent (nodeName model earlier (message model m))
-  unfolding Ruled isEmpty silent _>>=_
-  node-nameless k = ruled k
+  pub node-nameless : none ≡ firstOf Node·name (message model m) → pass (more w 0) ≡ Name?
+  unfolding Ruled isEmpty walkOf _>>=_
+  node-nameless k = ap pass (more-none w) ∙ ruled k
 
   module _ {f : Field} (k : some f ≡ firstOf Node·name (message model m)) {x : Bytes} (t : x ≡ text model f) where
-    by-name : silent (Ruled x (f .place)) ≡ silent (nodeName model earlier (message model m))
-    by-name = ap (λ (y : Bytes). silent (Ruled y (f .place))) t ∙ ruled k
-
     by-length : {b : Bool} → isEmpty x ≡ b
-        → silent {A = List Bytes} (elim b [
-          | true ↦ pass earlier
-          | false ↦ (refuse 21 at: f .place when: not (identifier x)
-              >> (refuse 29 at: f .place when: member x earlier >> pass (x ∷ earlier)))
-        ]) ≡ silent (nodeName model earlier (message model m))
+        → walkOf (elim b [
+          | true ↦ pass (record { walk = w; earlier = earlier })
+          | false ↦ Stands x (f .place) (tested w (record { bytes = x; place = f .place }))
+        ]) ≡ Name?
     unfolding Ruled
     by-length e =
-        ap (λ (b : Bool). silent {A = List Bytes} (elim b [
-          | true ↦ pass earlier
-          | false ↦ (refuse 21 at: f .place when: not (identifier x)
-              >> (refuse 29 at: f .place when: member x earlier >> pass (x ∷ earlier)))
+        ap (λ (b : Bool). walkOf (elim b [
+          | true ↦ pass (record { walk = w; earlier = earlier })
+          | false ↦ Stands x (f .place) (tested w (record { bytes = x; place = f .place }))
         ])) (sym e)
-        ∙ by-name
+        ∙ ap (λ (y : Bytes). walkOf (Ruled y (f .place))) t
+        ∙ ruled k
 
-    pub node-unnamed : length x ≡ 0 → pass tt ≡ silent (nodeName model earlier (message model m))
-    unfolding silent _>>=_
-    node-unnamed h = by-length (empty-none x h)
+    pub node-unnamed : length x ≡ 0 → pass (more w 0) ≡ Name?
+    unfolding walkOf _>>=_
+    node-unnamed h = ap pass (more-none w) ∙ by-length (empty-none x h)
 
-    module _ (h : length x ≡ 0 → ⊥) {b : Bool} (i : b ≡ identifier x) where
-      tested : (refuse 21 at: f .place when: not (identifier x) >> refuse 29 at: f .place when: member x earlier) ≡ silent (nodeName model earlier (message model m))
-      unfolding silent _>>=_
-      tested =
-          sym (silent-rule 21 _ _ _ ∙ ap (λ (o : Rule). refuse 21 at: f .place when: not (identifier x) >> o) (silent-last 29 _ _ (pass (x ∷ earlier)) refl))
-          ∙ by-length (empty-some x h)
+    module _ (h : length x ≡ 0 → ⊥) where
+      stood : {o : Judged Walk} → tested w (record { bytes = x; place = f .place }) ≡ o → walkOf (Stands x (f .place) o) ≡ Name?
+      stood i = ap (λ (o : Judged Walk). walkOf (Stands x (f .place) o)) (sym i) ∙ by-length (empty-some x h)
 
-      pub node-misnamed : b ≡ false → refused 21 (f .place) ≡ silent (nodeName model earlier (message model m))
-      node-misnamed e = sym (when-broken 21 (f .place) _ (ap not (sym i ∙ e))) ∙ tested
+      module _ {c : Tally} (e : tallySays w c ≡ tested w (record { bytes = x; place = f .place })) where
+        pub node-misnamed : {r : Refusal} → c ≡ tally.Refused r → tallySays w c ≡ Name?
+        unfolding tallySays Stands walkOf _>>=_
+        node-misnamed i = ap (tallySays w) i ∙ stood (untallied w e i)
 
-      module _ (e : b ≡ true) {v : Bool} (j : v ≡ member x earlier) where
-        new : refuse 29 at: f .place when: v ≡ silent (nodeName model earlier (message model m))
-        new = ap (λ (y : Bool). refuse 29 at: f .place when: y) j ∙ sym (when-kept 21 (f .place) _ (ap not (sym i ∙ e))) ∙ tested
+        module _ {n : ℕ} (i : c ≡ tally.Counted n) {v : Bool} (j : v ≡ member x earlier) where
+          new : walkOf (refuse 29 at: f .place when: v >> pass (record { walk = more w n; earlier = x ∷ earlier })) ≡ Name?
+          unfolding Stands _>>=_
+          new =
+              ap (λ (y : Bool). walkOf (refuse 29 at: f .place when: y >> pass (record { walk = more w n; earlier = x ∷ earlier }))) j
+              ∙ stood (tallied w e i)
 
-        pub node-twice : v ≡ true → refused 29 (f .place) ≡ silent (nodeName model earlier (message model m))
-        node-twice u = sym (broken 29 (f .place) u) ∙ new
+          pub node-twice : v ≡ true → refused 29 (f .place) ≡ Name?
+          unfolding walkOf _>>=_
+          node-twice u = sym (ap walkOf (when-broken 29 (f .place) _ u)) ∙ new
 
-        pub node-named : v ≡ false → pass tt ≡ silent (nodeName model earlier (message model m))
-        node-named u = sym (kept 29 (f .place) u) ∙ new
+          pub node-named : v ≡ false → pass (more w n) ≡ Name?
+          unfolding walkOf _>>=_
+          node-named u = sym (ap walkOf (when-kept 29 (f .place) _ u)) ∙ new
+
+  -- it counts no more than once
+  name-tells : Tells (λ v. v .odd ≡ w .odd + odds (bytesOf model Node·name (message model m) ∷ [])) Any Name?
+  unfolding walkOf
+  name-tells =
+      tells-bind (λ n. Adds w (odds (bytesOf model Node·name (message model m) ∷ [])) (n .walk)) _ Any (nodeName model earlier w (message model m)) _
+      (grew-name model earlier w (message model m)) (λ n a. a .3)
+
+  pub node-name-few : {t : Tally} → tallySays w t ≡ Name? → {k : ℕ} → t ≡ tally.Counted k → k ≤ 1
+  node-name-few e i = tally-few w e (bytesOf model Node·name (message model m) ∷ []) _ (λ v a. a) name-tells i
 
 -- ---- what is asked of a node by itself
 
 module _ (model : Bytes) (graph f : Field) where
-  abbrev Naming? : Rule
-  Naming? = silent (nodeName model (earlierIn model Graph·node Node·name graph f) (message model f))
+  abbrev Naming? : Walk → Judged Walk
+  Naming? w = walkOf (nodeName model (earlierIn model Graph·node Node·name graph f) w (message model f))
 
-  abbrev Imported : Rule
-  Imported = refuse 28 at: placeOf Node·domain (message model f) when: not (member (domain (bytesOf model Node·domain (message model f))) (importsIn model)) >> Naming?
+  Imported : Walk → Judged Walk
+  Imported w = do
+    refuse 28 at: placeOf Node·domain (message model f) when: not (member (domain (bytesOf model Node·domain (message model f))) (importsIn model))
+    Naming? w
 
-  module _ (n : Naming) (e : namingSays n ≡ nameField model 27 Node·op-type (message model f)) where
-    pub head-untyped : {x : Refusal} → n ≡ naming-answer.Refused x → silent (namingSays n) ≡ nodeHead model graph f
-    unfolding nodeHead namingSays nameSays silent _>>=_ _>>_
-    head-untyped k = ap (λ (m : Naming). silent (namingSays m)) k ∙ ap (λ (o : Judged Name). silent o >> Imported) (naming-says _ _ _ _ _ e k)
+  module _ (n : Naming) (e : (w : Walk) → namingSays w n ≡ nameField model 27 Node·op-type w (message model f)) (w : Walk) where
+    headed : {o : Judged Walk} → o ≡ naming 27 w (nameOf model Node·op-type (message model f)) → (o >>= Imported) ≡ nodeHead model graph w f
+    unfolding nodeHead Imported
+    headed k = ap (λ (o : Judged Walk). o >>= Imported) k
 
-    module _ {g : Field} (k : n ≡ naming-answer.Named g) {x : Bytes} (t : x ≡ bytesOf model Node·domain (message model f)) {b : Bool}
-        (i : b ≡ member (domain x) (importsIn model)) where
-      typed : (refuse 28 at: placeOf Node·domain (message model f) when: not b >> Naming?) ≡ nodeHead model graph f
-      unfolding nodeHead namingSays nameSays silent _>>=_ _>>_
+    pub head-untyped : {x : Refusal} → n ≡ naming-answer.Refused x → tallySays w (tallyOf n) ≡ nodeHead model graph w f
+    unfolding _>>=_
+    head-untyped k = named-tally _ _ _ _ _ e w ∙ sym (named-fails _ _ _ _ _ e w k) ∙ headed (named-fails _ _ _ _ _ e w k)
+
+    module _ {g : Field} {k : ℕ} (i : n ≡ naming-answer.Named g k) {x : Bytes} (t : x ≡ bytesOf model Node·domain (message model f)) {b : Bool}
+        (j : b ≡ member (domain x) (importsIn model)) where
+      typed : (refuse 28 at: placeOf Node·domain (message model f) when: not b >> Naming? (more w k)) ≡ nodeHead model graph w f
+      unfolding Imported _>>=_
       typed =
-          ap (λ (u : Bool). refuse 28 at: placeOf Node·domain (message model f) when: not u >> Naming?) (i ∙ ap (λ (y : Bytes). member (domain y) (importsIn model)) t)
-          ∙ ap (λ (o : Judged Name). silent o >> Imported) (naming-says _ _ _ _ _ e k)
+          ap (λ (u : Bool). refuse 28 at: placeOf Node·domain (message model f) when: not u >> Naming? (more w k))
+          (j ∙ ap (λ (y : Bytes). member (domain y) (importsIn model)) t)
+          ∙ headed (named-passes _ _ _ _ _ e w i)
 
-      pub head-foreign : b ≡ false → {p : ℕ} → p ≡ placeOf Node·domain (message model f) → refused 28 p ≡ nodeHead model graph f
+      pub head-foreign : b ≡ false → {p : ℕ} → p ≡ placeOf Node·domain (message model f) → refused 28 p ≡ nodeHead model graph w f
       head-foreign h q = ap (refused 28) q ∙ sym (when-broken 28 _ _ (ap not h)) ∙ typed
 
-      pub head-named : b ≡ true → Naming? ≡ nodeHead model graph f
-      head-named h = sym (when-kept 28 _ _ (ap not h)) ∙ typed
+      pub head-named : b ≡ true → (t : Tally) → tallySays (more w k) t ≡ Naming? (more w k) → tallySays w (adding k t) ≡ nodeHead model graph w f
+      head-named h t l = adding-says w k t ∙ l ∙ sym (when-kept 28 _ _ (ap not h)) ∙ typed

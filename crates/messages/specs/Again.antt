@@ -3,18 +3,18 @@
 -- that it is the second walk of document 01.
 use Prim.Native.Nat.{ℕ, zero, suc}
 use mathlib.Core.Bool.{Bool, false, not}
-use mathlib.Core.List.{List}
-use Rattle.varint.specs.Outcome.{pass, _>>=_, _>>_, each, Judged, Rule, refused, refuse_at:_when:_}
+use mathlib.Core.List.{List, [], _∷_, _++_, flatMap}
+use Rattle.varint.specs.Outcome.{pass, _>>=_, _>>_, each, Judged, refused, refuse_at:_when:_}
 use Rattle.wire.specs.declared.Field.{Field}
 use Rattle.varint.specs.Lists.{isEmpty, present}
 use Rattle.varint.specs.Bytes.{Bytes}
-use Rattle.wire.specs.Message.{allOf, firstOf, numberOf, placeOf, message}
+use Rattle.wire.specs.Message.{allOf, firstOf, numberOf, placeOf, text, bytesOf, message}
 use Rattle.schema.specs.Numbers.{Graph·node, Graph·name, Graph·initializer, Graph·input, Graph·output, Graph·sparse-initializer}
 use Rattle.schema.specs.Numbers.{Tensor·name, Tensor·data-type, Node·input, Node·output, Node·attribute}
-use Rattle.schema.specs.Answers.{silent}
-use Rattle.rules.specs.Names.{Name, inputsOf, bodiesOf}
+use Rattle.rules.specs.Names.{nameOf, inputsOf, bodiesOf}
 use Rattle.rules.specs.Walk.{Context, Walk, GraphJudge, withNode, naming}
 use Rattle.rules.specs.Types.{isElement}
+use Rattle.rules.specs.Count.{valueNames}
 use Rattle.rules.specs.Node.{nodeInput, nodeOutput, body}
 use Rattle.rules.specs.Graph.{defaultOrNew, input, output}
 use Rattle.headers.specs.Earlier.{earlierIn}
@@ -25,25 +25,39 @@ module _ (model : Bytes) where
   unfoldable pub context : (main : Bool) → Context
   context main = record { imports = importsIn model; main = main }
 
+  -- The names that are tested: of a field that is a name, of an initializer, and of a graph up to its nodes.
+  unfoldable pub fieldNames : Field → List Bytes
+  fieldNames f = text model f ∷ []
+
+  unfoldable pub tensorNames : Field → List Bytes
+  tensorNames f = bytesOf model Tensor·name (message model f) ∷ []
+
+  unfoldable pub openingNames : (main : Bool) → Field → List Bytes
+  openingNames main f =
+      let g = message model f in
+      bytesOf model Graph·name g ∷ flatMap (valueNames model main) (allOf Graph·input g) ++ flatMap tensorNames (allOf Graph·initializer g)
+
   -- "op_type (27, 21); 28; a nonempty node name (21, 29); inputs"
-  unfoldable pub nodeRules : (graph : Field) → (scope : List Name) → Field → Rule
-  nodeRules graph scope f = do
-    nodeHead model graph f
-    each (nodeInput model scope) tt (allOf Node·input (message model f))
+  unfoldable pub nodeRules : (graph : Field) → Walk → Field → Judged Walk
+  nodeRules graph w f = do
+    t ← nodeHead model graph w f
+    each (nodeInput model) t (allOf Node·input (message model f))
 
   -- "its name (20, 21); 16"
-  unfoldable pub graphRules : Field → Rule
-  graphRules f = do
+  unfoldable pub graphRules : Walk → Field → Judged Walk
+  graphRules w f = do
     let g = message model f
-    silent (naming model 20 Graph·name g)
+    t ← naming 20 w (nameOf model Graph·name g)
     refuse 16 at: placeOf Graph·sparse-initializer g when: present (firstOf Graph·sparse-initializer g)
+    pass t
 
   module _ (full : ℕ → Bool) where
     unfoldable pub initializerAgain : (main : Bool) → (graph : Field) → Walk → Field → Judged Walk
     initializerAgain main graph w f = do
       let m = message model f
-      x ← naming model 22 Tensor·name m
-      v ← defaultOrNew full (context main) (inputsOf model (message model graph)) (record { walk = w; earlier = earlierIn model Graph·initializer Tensor·name graph f }) x
+      let x = nameOf model Tensor·name m
+      t ← naming 22 w x
+      v ← defaultOrNew full (context main) (inputsOf model (message model graph)) (earlierIn model Graph·initializer Tensor·name graph f) t x
       refuse 26 at: placeOf Tensor·data-type m when: not (isElement (numberOf Tensor·data-type m))
       pass v
 
@@ -51,8 +65,8 @@ module _ (model : Bytes) where
     unfoldable pub opening : (main : Bool) → Walk → Field → Judged Walk
     opening main w f = do
       let g = message model f
-      graphRules f
-      v ← each (input model full (context main)) w (allOf Graph·input g)
+      t ← graphRules w f
+      v ← each (input model full (context main)) t (allOf Graph·input g)
       each (initializerAgain main f) v (allOf Graph·initializer g)
 
     -- A node after its attributes: "34; outputs".
@@ -66,13 +80,13 @@ module _ (model : Bytes) where
     module _ (nested : GraphJudge) where
       unfoldable pub attributeAgain : (node : Field) → Walk → Field → Judged Walk
       attributeAgain node w f = do
-        attributeRules model node f
-        each (body nested) w (bodiesOf (message model f))
+        t ← attributeRules model node w f
+        each (body nested) t (bodiesOf (message model f))
 
       unfoldable pub nodeAgain : (graph : Field) → Walk → Field → Judged Walk
       nodeAgain graph w f = do
-        nodeRules graph (w .scope) f
-        v ← each (attributeAgain f) w (allOf Node·attribute (message model f))
+        t ← nodeRules graph w f
+        v ← each (attributeAgain f) t (allOf Node·attribute (message model f))
         closing v f
 
       unfoldable pub graphFrom : (main : Bool) → Walk → Field → Judged Walk
@@ -80,8 +94,7 @@ module _ (model : Bytes) where
         let g = message model f
         v ← opening main w f
         n ← each (nodeAgain f) v (allOf Graph·node g)
-        each (output model (context main) (n .scope)) tt (allOf Graph·output g)
-        pass n
+        each (output model (context main)) n (allOf Graph·output g)
 
     unfoldable pub graphAgain : (left : ℕ) → (main : Bool) → GraphJudge
     graphAgain zero main w f = refused 6 (f .place)

@@ -1,36 +1,39 @@
 -- What the code asks of an attribute or a node before anything that needs a scope. No rule speaks of this; contracts of the code do, and
--- `graph-again` in `gate` says that a walk which asks so is the second walk of document 01.
+-- `graph-again` in `second_walk` says that a walk which asks so is the second walk of document 01.
 use mathlib.Core.Bool.{not}
-use mathlib.Core.List.{List}
-use Rattle.varint.specs.Outcome.{pass, _>>_, Rule, refuse_at:_when:_}
+use Rattle.varint.specs.Outcome.{pass, _>>=_, _>>_, Judged, refuse_at:_when:_}
 use Rattle.wire.specs.declared.Field.{Field}
+use Rattle.varint.specs.Lists.{isEmpty}
 use Rattle.varint.specs.Bytes.{Bytes, member}
-use Rattle.wire.specs.Message.{placeOf, bytesOf, message}
+use Rattle.wire.specs.Message.{numberOf, placeOf, bytesOf, message}
 use Rattle.operators.specs.Operators.{domain}
-use Rattle.schema.specs.Numbers.{Graph·node, Node·name, Node·op-type, Node·attribute, Node·domain, Attribute·name}
-use Rattle.schema.specs.Answers.{silent}
-use Rattle.rules.specs.Walk.{GraphJudge, start, Along, naming}
-use Rattle.rules.specs.Node.{nodeName, attribute}
+use Rattle.schema.specs.Numbers.{Graph·node, Node·name, Node·op-type, Node·attribute, Node·domain, Attribute·name, Attribute·type, Attribute·ref-attr-name}
+use Rattle.rules.specs.Names.{nameOf}
+use Rattle.rules.specs.Walk.{Walk, Along, naming}
+use Rattle.rules.specs.Node.{badValue, nodeName}
 use Rattle.headers.specs.Earlier.{earlierIn}
 use Rattle.headers.specs.Imports.{importsIn}
 
--- A judge of graphs that finds no fault: with it, only what is asked outside an attribute's graphs is left.
-unfoldable pub passing : GraphJudge
-passing w g = pass w
-
--- A walk that has nothing behind it but these names in its list.
-unfoldable pub after : List Bytes → Along
-after names = record { walk = start; earlier = names }
+-- A walk along a list, without the names behind it.
+unfoldable pub walkOf : Judged Along → Judged Walk
+walkOf o = o >>= λ a. pass (a .walk)
 
 module _ (model : Bytes) where
-  -- What is asked of an attribute before its graphs.
-  unfoldable pub attributeRules : (node : Field) → Field → Rule
-  attributeRules node f = silent (attribute model passing (after (earlierIn model Node·attribute Attribute·name node f)) f)
+  -- "Attribute: 22, 21, 31, 33, 32"
+  unfoldable pub attributeRules : (node : Field) → Walk → Field → Judged Walk
+  attributeRules node w f = do
+    let a = message model f
+    let x = nameOf model Attribute·name a
+    t ← naming 22 w x
+    refuse 31 at: x .place when: member (x .bytes) (earlierIn model Node·attribute Attribute·name node f)
+    refuse 33 at: a .place when: not (isEmpty (bytesOf model Attribute·ref-attr-name a))
+    refuse 32 at: a .place when: badValue (numberOf Attribute·type a) a
+    pass t
 
   -- "op_type (27, 21); 28; a nonempty node name (21, 29)"
-  unfoldable pub nodeHead : (graph : Field) → Field → Rule
-  nodeHead graph f = do
+  unfoldable pub nodeHead : (graph : Field) → Walk → Field → Judged Walk
+  nodeHead graph w f = do
     let m = message model f
-    silent (naming model 27 Node·op-type m)
+    t ← naming 27 w (nameOf model Node·op-type m)
     refuse 28 at: placeOf Node·domain m when: not (member (domain (bytesOf model Node·domain m)) (importsIn model))
-    silent (nodeName model (earlierIn model Graph·node Node·name graph f) m)
+    walkOf (nodeName model (earlierIn model Graph·node Node·name graph f) t m)

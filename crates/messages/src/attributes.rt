@@ -4,18 +4,20 @@ ghost use Rattle.schema.specs.Numbers.{Node·attribute, Attribute·name};
 ghost use Rattle.index.specs.Listing.{Listed};
 ghost use Rattle.headers.specs.Earlier.{earlierIn};
 ghost use Rattle.messages.specs.Heads.{attributeRules};
-ghost use Rattle.values.specs.Answers.{rulingSays};
+ghost use Rattle.rules.specs.Walk.{Walk};
+ghost use Rattle.values.specs.Answers.{tallySays};
 use headers::is_listed;
 use index::Listing;
 use values::Naming;
 use values::Ruling;
+use values::Tally;
 use values::is_bad_value;
-use values::misnaming;
 use values::numbers::ATTRIBUTE_NAME;
 use values::numbers::ATTRIBUTE_REF_ATTR_NAME;
 use values::numbers::NODE_ATTRIBUTE;
 use values::read_name;
-use values::refused;
+use values::tally_of;
+use values::uncounted;
 use wire::Field;
 
 // "Attribute: 22, 21, 31, 33, 32; then its graphs in order": all but the graphs.
@@ -26,13 +28,13 @@ pub fn attribute_rules(
     l: Listing,
     node: Field,
     a: Field,
-) -> Ruling
+) -> Tally
     requires { ⌜ Listed (now model) seed (now lists) l (earlierIn (now model) Node·attribute Attribute·name node a) ⌝ }
-    ensures { λ r. ⌜ rulingSays r ≡ attributeRules (now (model .entry)) node a ⌝ }
+    ensures { λ r. ⌜ ((w : Walk) → tallySays w r ≡ attributeRules (now (model .entry)) node w a) ⌝ }
 {
     let naming = read_name(model, a, ATTRIBUTE_NAME, Ruling::NAME_EMPTY);
-    let Naming::Named(name) = naming else {
-        return misnaming(naming);
+    let Naming::Named(name, odd) = naming else {
+        return tally_of(naming);
     };
     if is_listed(
         model,
@@ -45,14 +47,14 @@ pub fn attribute_rules(
         a.place,
         name.text(model),
     ) {
-        return refused(Ruling::ATTRIBUTE_TWICE, name.place);
+        return uncounted(Ruling::ATTRIBUTE_TWICE, name.place);
     }
     let reference = a.bytes_of(model, ATTRIBUTE_REF_ATTR_NAME);
     if reference.len() != 0 {
-        return refused(Ruling::REFERENCE_PRESENT, a.place);
+        return uncounted(Ruling::REFERENCE_PRESENT, a.place);
     }
     if is_bad_value(model, a) {
-        return refused(Ruling::BAD_VALUE, a.place);
+        return uncounted(Ruling::BAD_VALUE, a.place);
     }
-    Ruling::Kept
+    Tally::Counted(odd)
 }

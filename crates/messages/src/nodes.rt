@@ -2,53 +2,49 @@
 ghost use mathlib.Core.Path.{_≡_};
 ghost use Rattle.wire.specs.Message.{message};
 ghost use Rattle.schema.specs.Numbers.{Graph·node, Node·name};
-ghost use Rattle.schema.specs.Answers.{silent};
+ghost use Rattle.rules.specs.Walk.{Walk};
 ghost use Rattle.rules.specs.Node.{nodeName};
 ghost use Rattle.index.specs.Listing.{Listed};
 ghost use Rattle.headers.specs.Earlier.{earlierIn};
 ghost use Rattle.headers.specs.Imports.{importsIn};
 ghost use Rattle.headers.specs.Imported.{Imported};
-ghost use Rattle.messages.specs.Heads.{nodeHead};
-ghost use Rattle.values.specs.Answers.{rulingSays};
+ghost use Rattle.messages.specs.Heads.{walkOf, nodeHead};
+ghost use Rattle.values.specs.Answers.{tallySays};
 use headers::Imports;
 use headers::is_imported;
 use headers::is_listed;
 use index::Listing;
-use rules::is_identifier;
 use values::Naming;
 use values::Ruling;
-use values::misnaming;
+use values::Tally;
+use values::adding;
 use values::numbers::GRAPH_NODE;
 use values::numbers::NODE_DOMAIN;
 use values::numbers::NODE_NAME;
 use values::numbers::NODE_OP_TYPE;
 use values::read_name;
-use values::refused;
+use values::tally_of;
+use values::tested;
+use values::uncounted;
 use wire::Field;
 use wire::Sought;
 
 // "a nonempty node name (21, 29)"
-fn node_name(
-    model: &[u8],
-    lists: &[u32],
-    seed: u64,
-    l: Listing,
-    graph: Field,
-    node: Field,
-) -> Ruling
+fn node_name(model: &[u8], lists: &[u32], seed: u64, l: Listing, graph: Field, node: Field) -> Tally
     requires { ⌜ Listed (now model) seed (now lists) l (earlierIn (now model) Graph·node Node·name graph node) ⌝ }
-    ensures { λ r. ⌜ rulingSays r ≡ silent (nodeName (now (model .entry)) (earlierIn (now (model .entry)) Graph·node Node·name graph node) (message (now (model .entry)) node)) ⌝ }
+    ensures { λ r. ⌜ ((w : Walk) → tallySays w r ≡ walkOf (nodeName (now (model .entry)) (earlierIn (now (model .entry)) Graph·node Node·name graph node) w (message (now (model .entry)) node))) ⌝ }
 {
     let Sought::Found(name, _) = node.first_of(model, NODE_NAME) else {
-        return Ruling::Kept;
+        return Tally::Counted(0);
     };
     let text = name.text(model);
     if text.len() == 0 {
-        return Ruling::Kept;
+        return Tally::Counted(0);
     }
-    if !is_identifier(text) {
-        return refused(Ruling::NOT_IDENTIFIER, name.place);
-    }
+    let tally = tested(text, name.place);
+    let Tally::Counted(odd) = tally else {
+        return tally;
+    };
     if is_listed(
         model,
         lists,
@@ -60,9 +56,9 @@ fn node_name(
         node.place,
         text,
     ) {
-        return refused(Ruling::NODE_NAME_TWICE, name.place);
+        return uncounted(Ruling::NODE_NAME_TWICE, name.place);
     }
-    Ruling::Kept
+    Tally::Counted(odd)
 }
 
 // "op_type (27, 21); 28; a nonempty node name (21, 29)"
@@ -74,14 +70,14 @@ pub fn node_head(
     l: Listing,
     graph: Field,
     f: Field,
-) -> Ruling
+) -> Tally
     requires { ⌜ Imported (now model) seed (now lists) imports (importsIn (now model)) ⌝ }
     requires { ⌜ Listed (now model) seed (now lists) l (earlierIn (now model) Graph·node Node·name graph f) ⌝ }
-    ensures { λ r. ⌜ rulingSays r ≡ nodeHead (now (model .entry)) graph f ⌝ }
+    ensures { λ r. ⌜ ((w : Walk) → tallySays w r ≡ nodeHead (now (model .entry)) graph w f) ⌝ }
 {
     let naming = read_name(model, f, NODE_OP_TYPE, Ruling::OP_TYPE_EMPTY);
-    let Naming::Named(_) = naming else {
-        return misnaming(naming);
+    let Naming::Named(_, odd) = naming else {
+        return tally_of(naming);
     };
     let end = model.len();
     if !is_imported(
@@ -92,7 +88,7 @@ pub fn node_head(
         end,
         f.bytes_of(model, NODE_DOMAIN),
     ) {
-        return refused(Ruling::NOT_IMPORTED, f.place_of(model, NODE_DOMAIN));
+        return uncounted(Ruling::NOT_IMPORTED, f.place_of(model, NODE_DOMAIN));
     }
-    node_name(model, lists, seed, l, graph, f)
+    adding(odd, node_name(model, lists, seed, l, graph, f))
 }

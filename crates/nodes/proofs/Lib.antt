@@ -1,3 +1,4 @@
+pub mod NodeCounts
 pub mod OutputLaws
 pub mod NodeLaws
 pub mod ClosingLaws

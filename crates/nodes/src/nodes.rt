@@ -1,64 +1,62 @@
 // What is asked of a node beside its attributes.
 ghost use mathlib.Core.Path.{_≡_};
-ghost use Prim.Native.Nat.{_^_, _<_, _≤_};
+ghost use Prim.Native.Nat.{_+_, _^_, _<_, _≤_};
+ghost use mathlib.Core.List.{flatMap};
 ghost use lib.ListN.{length, drop};
 ghost use Rattle.varint.specs.Outcome.{each};
 ghost use Rattle.wire.specs.Message.{allOf, message};
-ghost use Rattle.schema.specs.Numbers.{Graph·node, Node·input, Node·name, Node·attribute, Attribute·name};
+ghost use Rattle.schema.specs.Numbers.{Graph·node, Node·input, Node·output, Node·name, Node·attribute, Attribute·name};
 ghost use Rattle.schema.specs.declared.Kind.the-variants.{Node};
 ghost use Rattle.schema.specs.Opened.{Walked};
 ghost use Rattle.rules.specs.Verdict.{fills};
+ghost use Rattle.rules.specs.Walk.{Walk};
 ghost use Rattle.rules.specs.Node.{nodeInput};
 ghost use Rattle.index.specs.Listing.{Listed};
-ghost use Rattle.values.specs.Answers.{rulingSays};
+ghost use Rattle.values.specs.Answers.{tallySays};
 ghost use Rattle.headers.specs.Earlier.{earlierIn};
 ghost use Rattle.headers.specs.Imports.{importsIn};
 ghost use Rattle.headers.specs.Imported.{Imported};
 ghost use Rattle.messages.specs.Heads.{attributeRules, nodeHead};
-ghost use Rattle.scope.specs.Scope.{scopeIn, walkIn, stepSays, grows, Keeps};
+ghost use Rattle.scope.specs.Scope.{scopeIn, walkIn, stepSays, grows, Countable, Keeps};
 ghost use Rattle.scope.specs.Recall.{Recalling, Recalled};
-ghost use Rattle.messages.specs.Again.{nodeRules, closing};
+ghost use Rattle.messages.specs.Again.{fieldNames, nodeRules, closing};
 use crate::outputs::node_outputs;
 use headers::has;
 use index::Listing;
 use messages::attribute_rules;
 use messages::node_head;
-use rules::is_identifier;
 use scope::Index;
 use scope::Progress;
 use scope::Step;
 use scope::sees;
 use scope::stopped;
 use values::Ruling;
+use values::Tally;
+use values::adding;
 use values::numbers::NODE_INPUT;
 use values::numbers::NODE_OUTPUT;
-use values::refused;
+use values::tested;
+use values::uncounted;
 use wire::Field;
 use wire::Sought;
 
 // "An empty input or output means "left out" and is passed over. Input: 21, 30."
-fn node_input(
-    model: &[u8],
-    cells: &[u32],
-    extra: &[u32],
-    ix: Index,
-    used: usize,
-    f: Field,
-) -> Ruling
+fn node_input(model: &[u8], cells: &[u32], extra: &[u32], ix: Index, used: usize, f: Field) -> Tally
     requires { ⌜ Recalling (now model) ix (now cells) (now extra) ⌝ }
-    ensures { λ r. ⌜ rulingSays r ≡ nodeInput (now (model .entry)) (scopeIn (now (model .entry)) (now (cells .entry)) used) tt f ⌝ }
+    ensures { λ r. ⌜ ((w : Walk) → w .scope ≡ scopeIn (now (model .entry)) (now (cells .entry)) used → tallySays w r ≡ nodeInput (now (model .entry)) w f) ⌝ }
 {
     let text = f.text(model);
     if text.len() == 0 {
-        return Ruling::Kept;
+        return Tally::Counted(0);
     }
-    if !is_identifier(text) {
-        return refused(Ruling::NOT_IDENTIFIER, f.place);
-    }
+    let tally = tested(text, f.place);
+    let Tally::Counted(odd) = tally else {
+        return tally;
+    };
     if sees(model, cells, extra, ix, used, text) {
-        return Ruling::Kept;
+        return Tally::Counted(odd);
     }
-    refused(Ruling::INPUT_NOT_VISIBLE, f.place)
+    uncounted(Ruling::INPUT_NOT_VISIBLE, f.place)
 }
 
 fn node_inputs(
@@ -68,30 +66,32 @@ fn node_inputs(
     ix: Index,
     used: usize,
     node: Field,
-) -> Ruling
+) -> Tally
     requires { ⌜ Recalling (now model) ix (now cells) (now extra) ⌝ }
-    ensures { λ r. ⌜ rulingSays r ≡ each (nodeInput (now (model .entry)) (scopeIn (now (model .entry)) (now (cells .entry)) used)) tt (allOf Node·input (message (now (model .entry)) node)) ⌝ }
+    ensures { λ r. ⌜ ((w : Walk) → w .scope ≡ scopeIn (now (model .entry)) (now (cells .entry)) used → tallySays w r ≡ each (nodeInput (now (model .entry))) w (allOf Node·input (message (now (model .entry)) node))) ⌝ }
 {
     let mut c = node.contents();
+    let mut odd = 0;
     loop {
         let sought = c.next_of(model, NODE_INPUT);
         let Sought::Found(f, next) = sought else {
-            return Ruling::Kept;
+            return Tally::Counted(odd);
         };
-        let ruling = node_input(model, cells, extra, ix, used, f);
-        let Ruling::Kept = ruling else {
-            return ruling;
+        let tally = node_input(model, cells, extra, ix, used, f);
+        let Tally::Counted(more) = tally else {
+            return tally;
         };
+        odd += more;
         c = next;
     }
 }
 
 // "op_type (27, 21); 28; a nonempty node name (21, 29)", with what the extra cells hold of imports and names.
-fn head(model: &[u8], extra: &[u32], ix: Index, l: Listing, graph: Field, f: Field) -> Ruling
+fn head(model: &[u8], extra: &[u32], ix: Index, l: Listing, graph: Field, f: Field) -> Tally
     requires { ⌜ ix .split ≤ length (now extra) ⌝ }
     requires { ⌜ Imported (now model) (ix .seed) (drop (ix .split) (now extra)) (ix .imports) (importsIn (now model)) ⌝ }
     requires { ⌜ Listed (now model) (ix .seed) (drop (ix .split) (now extra)) l (earlierIn (now model) Graph·node Node·name graph f) ⌝ }
-    ensures { λ r. ⌜ rulingSays r ≡ nodeHead (now (model .entry)) graph f ⌝ }
+    ensures { λ r. ⌜ ((w : Walk) → tallySays w r ≡ nodeHead (now (model .entry)) graph w f) ⌝ }
 {
     let split = ix.split;
     let imports = ix.imports;
@@ -108,17 +108,18 @@ pub fn node_rules(
     used: usize,
     graph: Field,
     f: Field,
-) -> Ruling
+) -> Tally
     requires { ⌜ Recalling (now model) ix (now cells) (now extra) ⌝ }
     requires { ⌜ Imported (now model) (ix .seed) (drop (ix .split) (now extra)) (ix .imports) (importsIn (now model)) ⌝ }
     requires { ⌜ Listed (now model) (ix .seed) (drop (ix .split) (now extra)) l (earlierIn (now model) Graph·node Node·name graph f) ⌝ }
-    ensures { λ r. ⌜ rulingSays r ≡ nodeRules (now (model .entry)) graph (scopeIn (now (model .entry)) (now (cells .entry)) used) f ⌝ }
+    requires { ⌜ 2 + length (flatMap (fieldNames (now model)) (allOf Node·input (message (now model) f))) < 2 ^ 64 ⌝ }
+    ensures { λ r. ⌜ ((w : Walk) → w .scope ≡ scopeIn (now (model .entry)) (now (cells .entry)) used → tallySays w r ≡ nodeRules (now (model .entry)) graph w f) ⌝ }
 {
-    let ruling = head(model, extra, ix, l, graph, f);
-    let Ruling::Kept = ruling else {
-        return ruling;
+    let tally = head(model, extra, ix, l, graph, f);
+    let Tally::Counted(odd) = tally else {
+        return tally;
     };
-    node_inputs(model, cells, extra, ix, used, f)
+    adding(odd, node_inputs(model, cells, extra, ix, used, f))
 }
 
 // "22, 21, 31, 33, 32" of an attribute, with what the extra cells hold of the names before it.
@@ -129,10 +130,10 @@ pub fn attribute_head(
     l: Listing,
     node: Field,
     a: Field,
-) -> Ruling
+) -> Tally
     requires { ⌜ ix .split ≤ length (now extra) ⌝ }
     requires { ⌜ Listed (now model) (ix .seed) (drop (ix .split) (now extra)) l (earlierIn (now model) Node·attribute Attribute·name node a) ⌝ }
-    ensures { λ r. ⌜ rulingSays r ≡ attributeRules (now (model .entry)) node a ⌝ }
+    ensures { λ r. ⌜ ((w : Walk) → tallySays w r ≡ attributeRules (now (model .entry)) node w a) ⌝ }
 {
     let split = ix.split;
     attribute_rules(model, &extra[split..], ix.seed, l, node, a)
@@ -150,6 +151,7 @@ pub fn closing(
     requires { ⌜ length (now model) < 2 ^ 32 ⌝ }
     requires { ⌜ Walked (now model) Node f ⌝ }
     requires { ⌜ p .nodes < 2 ^ 32 ⌝ }
+    requires { ⌜ Countable p (flatMap (fieldNames (now model)) (allOf Node·output (message (now model) f))) ⌝ }
     requires { ⌜ Recalling (now model) ix (now cells) (now extra) ⌝ }
     ensures answer { λ r. ⌜ stepSays (now (model .entry)) (now (cells .exit)) r ≡ closing (now (model .entry)) (fills (length (now (cells .entry)))) (walkIn (now (model .entry)) (now (cells .entry)) p) f ⌝ }
     ensures grown { λ r. ⌜ grows p r ⌝ }
@@ -167,5 +169,6 @@ pub fn closing(
         used: q.used,
         nodes: q.nodes + 1,
         most: q.most,
+        odd: q.odd,
     })
 }

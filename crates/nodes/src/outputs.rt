@@ -1,6 +1,7 @@
 // The outputs of a node, which are new names, and those of a graph, which are visible ones.
 ghost use mathlib.Core.Path.{_≡_};
 ghost use Prim.Native.Nat.{_^_, _<_};
+ghost use mathlib.Core.List.{flatMap};
 ghost use lib.ListN.{length};
 ghost use Rattle.varint.specs.Outcome.{each};
 ghost use Rattle.wire.specs.Message.{allOf, message};
@@ -8,27 +9,31 @@ ghost use Rattle.schema.specs.declared.Kind.the-variants.{Node};
 ghost use Rattle.schema.specs.Numbers.{Node·output, Graph·output};
 ghost use Rattle.schema.specs.Opened.{Walked};
 ghost use Rattle.rules.specs.Verdict.{fills};
-ghost use Rattle.rules.specs.Walk.{Context};
+ghost use Rattle.rules.specs.Walk.{Context, Walk};
+ghost use Rattle.rules.specs.Count.{valueNames};
 ghost use Rattle.rules.specs.Node.{nodeOutput};
 ghost use Rattle.rules.specs.Graph.{output};
-ghost use Rattle.scope.specs.Scope.{scopeIn, walkIn, stepSays, grows, Direct, Keeps};
+ghost use Rattle.scope.specs.Scope.{scopeIn, walkIn, stepSays, grows, Countable, Direct, Keeps};
 ghost use Rattle.scope.specs.Recall.{Recalling, Recalled};
-ghost use Rattle.values.specs.Answers.{rulingSays};
-use rules::is_identifier;
+ghost use Rattle.values.specs.Answers.{tallySays};
+ghost use Rattle.messages.specs.Again.{fieldNames};
 use scope::Index;
 use scope::Progress;
 use scope::Step;
 use scope::define;
 use scope::sees;
-use scope::stopped;
+use scope::with_odd;
 use values::Naming;
 use values::Ruling;
+use values::Tally;
+use values::adding;
 use values::main_type;
 use values::numbers::GRAPH_OUTPUT;
 use values::numbers::NODE_OUTPUT;
 use values::numbers::VALUE_INFO_NAME;
 use values::read_name;
-use values::refused;
+use values::tested;
+use values::uncounted;
 use wire::Field;
 use wire::Sought;
 
@@ -42,6 +47,7 @@ fn node_output(
     f: Field,
 ) -> Step
     requires { ⌜ Direct (now model) f ⌝ }
+    requires { ⌜ Countable p (fieldNames (now model) f) ⌝ }
     requires { ⌜ length (now model) < 2 ^ 32 ⌝ }
     requires { ⌜ Recalling (now model) ix (now cells) (now extra) ⌝ }
     ensures answer { λ r. ⌜ stepSays (now (model .entry)) (now (cells .exit)) r ≡ nodeOutput (now (model .entry)) (fills (length (now (cells .entry)))) (walkIn (now (model .entry)) (now (cells .entry)) p) f ⌝ }
@@ -53,10 +59,10 @@ fn node_output(
     if text.len() == 0 {
         return Step::Went(p);
     }
-    if !is_identifier(text) {
-        return stopped(Ruling::NOT_IDENTIFIER, f.place);
+    match tested(text, f.place) {
+        Tally::Refused(r) => Step::Refused(r),
+        Tally::Counted(odd) => define(model, cells, extra, ix, with_odd(p, odd), f),
     }
-    define(model, cells, extra, ix, p, f)
 }
 
 // A cell holds the place of a name, so the model is shorter than the greatest number in one; the first walk passed the message, so that
@@ -71,6 +77,7 @@ pub(crate) fn node_outputs(
 ) -> Step
     requires { ⌜ length (now model) < 2 ^ 32 ⌝ }
     requires { ⌜ Walked (now model) Node node ⌝ }
+    requires { ⌜ Countable p (flatMap (fieldNames (now model)) (allOf Node·output (message (now model) node))) ⌝ }
     requires { ⌜ Recalling (now model) ix (now cells) (now extra) ⌝ }
     ensures answer { λ r. ⌜ stepSays (now (model .entry)) (now (cells .exit)) r ≡ each (nodeOutput (now (model .entry)) (fills (length (now (cells .entry))))) (walkIn (now (model .entry)) (now (cells .entry)) p) (allOf Node·output (message (now (model .entry)) node)) ⌝ }
     ensures grown { λ r. ⌜ grows p r ⌝ }
@@ -102,17 +109,18 @@ fn graph_output(
     used: usize,
     main: bool,
     f: Field,
-) -> Ruling
+) -> Tally
     requires { ⌜ Recalling (now model) ix (now cells) (now extra) ⌝ }
-    ensures { λ r. ⌜ ((k : Context) → k .main ≡ main → rulingSays r ≡ output (now (model .entry)) k (scopeIn (now (model .entry)) (now (cells .entry)) used) tt f) ⌝ }
+    requires { ⌜ length (valueNames (now model) main f) < 2 ^ 64 ⌝ }
+    ensures { λ r. ⌜ ((k : Context) (w : Walk) → k .main ≡ main → w .scope ≡ scopeIn (now (model .entry)) (now (cells .entry)) used → tallySays w r ≡ output (now (model .entry)) k w f) ⌝ }
 {
     match read_name(model, f, VALUE_INFO_NAME, Ruling::NAME_EMPTY) {
-        Naming::Refused(r) => Ruling::Refused(r),
-        Naming::Named(name) => {
+        Naming::Refused(r) => Tally::Refused(r),
+        Naming::Named(name, odd) => {
             if !sees(model, cells, extra, ix, used, name.text(model)) {
-                return refused(Ruling::OUTPUT_NOT_VISIBLE, name.place);
+                return uncounted(Ruling::OUTPUT_NOT_VISIBLE, name.place);
             }
-            main_type(model, main, f)
+            adding(odd, main_type(model, main, f))
         }
     }
 }
@@ -125,20 +133,23 @@ pub fn graph_outputs(
     used: usize,
     main: bool,
     graph: Field,
-) -> Ruling
+) -> Tally
     requires { ⌜ Recalling (now model) ix (now cells) (now extra) ⌝ }
-    ensures { λ r. ⌜ ((k : Context) → k .main ≡ main → rulingSays r ≡ each (output (now (model .entry)) k (scopeIn (now (model .entry)) (now (cells .entry)) used)) tt (allOf Graph·output (message (now (model .entry)) graph))) ⌝ }
+    requires { ⌜ length (flatMap (valueNames (now model) main) (allOf Graph·output (message (now model) graph))) < 2 ^ 64 ⌝ }
+    ensures { λ r. ⌜ ((k : Context) (w : Walk) → k .main ≡ main → w .scope ≡ scopeIn (now (model .entry)) (now (cells .entry)) used → tallySays w r ≡ each (output (now (model .entry)) k) w (allOf Graph·output (message (now (model .entry)) graph))) ⌝ }
 {
     let mut c = graph.contents();
+    let mut odd = 0;
     loop {
         let sought = c.next_of(model, GRAPH_OUTPUT);
         let Sought::Found(f, next) = sought else {
-            return Ruling::Kept;
+            return Tally::Counted(odd);
         };
-        let ruling = graph_output(model, cells, extra, ix, used, main, f);
-        let Ruling::Kept = ruling else {
-            return ruling;
+        let tally = graph_output(model, cells, extra, ix, used, main, f);
+        let Tally::Counted(more) = tally else {
+            return tally;
         };
+        odd += more;
         c = next;
     }
 }

@@ -3,6 +3,7 @@ ghost use mathlib.Core.Path.{_≡_};
 ghost use mathlib.Core.Bool.{false};
 ghost use Prim.Native.Nat.{_^_, _<_, _≤_};
 ghost use lib.ListN.{length, drop};
+ghost use mathlib.Core.List.{flatMap};
 ghost use Rattle.varint.specs.Lists.{isEmpty};
 ghost use Rattle.varint.specs.Bytes.{member};
 ghost use Rattle.varint.specs.Outcome.{each};
@@ -16,9 +17,9 @@ ghost use Rattle.rules.specs.Graph.{isDefault, defaultOrNew};
 ghost use Rattle.index.specs.Memory.{known};
 ghost use Rattle.index.specs.Listing.{Listed};
 ghost use Rattle.headers.specs.Earlier.{earlierIn};
-ghost use Rattle.scope.specs.Scope.{walkIn, stepSays, grows, Direct, Keeps, Defaultable};
+ghost use Rattle.scope.specs.Scope.{walkIn, stepSays, grows, Countable, Direct, Keeps, Defaultable};
 ghost use Rattle.scope.specs.Recall.{Recalling, Recalled, Minded};
-ghost use Rattle.messages.specs.Again.{context, initializerAgain};
+ghost use Rattle.messages.specs.Again.{context, tensorNames, initializerAgain};
 use headers::is_listed;
 use index::Listing;
 use scope::Index;
@@ -28,6 +29,7 @@ use scope::define;
 use scope::list;
 use scope::sees;
 use scope::stopped;
+use scope::with_odd;
 use values::Naming;
 use values::Ruling;
 use values::is_element;
@@ -115,7 +117,7 @@ fn default_or_new(
     requires { ⌜ Defaultable (now model) main graph (now cells) inputs ⌝ }
     requires { ⌜ Listed (now model) (ix .seed) (drop (ix .split) (now extra)) l (earlierIn (now model) Graph·initializer Tensor·name graph f) ⌝ }
     requires { ⌜ isEmpty (text (now model) name) ≡ false ⌝ }
-    ensures answer { λ r. ⌜ stepSays (now (model .entry)) (now (cells .exit)) r ≡ defaultOrNew (fills (length (now (cells .entry)))) (context (now (model .entry)) main) (inputsOf (now (model .entry)) (message (now (model .entry)) graph)) (record { walk = walkIn (now (model .entry)) (now (cells .entry)) p; earlier = earlierIn (now (model .entry)) Graph·initializer Tensor·name graph f }) (nameIn (now (model .entry)) name) ⌝ }
+    ensures answer { λ r. ⌜ stepSays (now (model .entry)) (now (cells .exit)) r ≡ defaultOrNew (fills (length (now (cells .entry)))) (context (now (model .entry)) main) (inputsOf (now (model .entry)) (message (now (model .entry)) graph)) (earlierIn (now (model .entry)) Graph·initializer Tensor·name graph f) (walkIn (now (model .entry)) (now (cells .entry)) p) (nameIn (now (model .entry)) name) ⌝ }
     ensures grown { λ r. ⌜ grows p r ⌝ }
     ensures kept { λ _. ⌜ Keeps (p .used) (now (cells .entry)) (now (cells .exit)) ⌝ }
     ensures memory { λ _. ⌜ Recalled (now (model .entry)) ix (now (cells .exit)) (now (extra .entry)) (now (extra .exit)) ⌝ }
@@ -152,6 +154,7 @@ fn initializer(
 ) -> Step
     requires { ⌜ length (now model) < 2 ^ 32 ⌝ }
     requires { ⌜ Walked (now model) Tensor f ⌝ }
+    requires { ⌜ Countable p (tensorNames (now model) f) ⌝ }
     requires { ⌜ Recalling (now model) ix (now cells) (now extra) ⌝ }
     requires { ⌜ Defaultable (now model) main graph (now cells) inputs ⌝ }
     requires { ⌜ Listed (now model) (ix .seed) (drop (ix .split) (now extra)) l (earlierIn (now model) Graph·initializer Tensor·name graph f) ⌝ }
@@ -162,8 +165,9 @@ fn initializer(
 {
     match read_name(model, f, TENSOR_NAME, Ruling::NAME_EMPTY) {
         Naming::Refused(r) => Step::Refused(r),
-        Naming::Named(name) => {
-            let step = default_or_new(model, cells, extra, ix, l, main, inputs, p, graph, f, name);
+        Naming::Named(name, odd) => {
+            let t = with_odd(p, odd);
+            let step = default_or_new(model, cells, extra, ix, l, main, inputs, t, graph, f, name);
             let Step::Went(q) = step else {
                 return step;
             };
@@ -188,6 +192,7 @@ pub(crate) fn initializers(
 ) -> Step
     requires { ⌜ length (now model) < 2 ^ 32 ⌝ }
     requires { ⌜ Walked (now model) Graph graph ⌝ }
+    requires { ⌜ Countable p (flatMap (tensorNames (now model)) (allOf Graph·initializer (message (now model) graph))) ⌝ }
     requires { ⌜ Recalling (now model) ix (now cells) (now extra) ⌝ }
     requires { ⌜ Defaultable (now model) main graph (now cells) (p .used) ⌝ }
     requires { ⌜ top ≤ known (drop (ix .split) (now extra)) ⌝ }

@@ -3,6 +3,7 @@
 ghost use mathlib.Core.Path.{_≡_};
 ghost use Prim.Native.Nat.{_^_, _<_};
 ghost use lib.ListN.{length};
+ghost use mathlib.Core.List.{flatMap};
 ghost use Rattle.varint.specs.Outcome.{each};
 ghost use Rattle.wire.specs.Message.{allOf, message};
 ghost use Rattle.schema.specs.declared.Kind.the-variants.{Graph, ValueInfo};
@@ -10,13 +11,16 @@ ghost use Rattle.schema.specs.Numbers.{Graph·input};
 ghost use Rattle.schema.specs.Opened.{Walked};
 ghost use Rattle.rules.specs.Verdict.{fills};
 ghost use Rattle.rules.specs.Walk.{Context};
+ghost use Rattle.rules.specs.Count.{valueNames};
 ghost use Rattle.rules.specs.Graph.{input};
-ghost use Rattle.scope.specs.Scope.{walkIn, stepSays, grows, Keeps};
+ghost use Rattle.scope.specs.Scope.{walkIn, stepSays, grows, Countable, Keeps};
 ghost use Rattle.scope.specs.Recall.{Recalling, Recalled};
 use scope::Index;
 use scope::Progress;
 use scope::Step;
+use scope::counting;
 use scope::define;
+use scope::with_odd;
 use values::Naming;
 use values::Ruling;
 use values::main_type;
@@ -38,6 +42,7 @@ fn input(
 ) -> Step
     requires { ⌜ length (now model) < 2 ^ 32 ⌝ }
     requires { ⌜ Walked (now model) ValueInfo f ⌝ }
+    requires { ⌜ Countable p (valueNames (now model) main f) ⌝ }
     requires { ⌜ Recalling (now model) ix (now cells) (now extra) ⌝ }
     ensures answer { λ r. ⌜ ((k : Context) → k .main ≡ main → stepSays (now (model .entry)) (now (cells .exit)) r ≡ input (now (model .entry)) (fills (length (now (cells .entry)))) k (walkIn (now (model .entry)) (now (cells .entry)) p) f) ⌝ }
     ensures grown { λ r. ⌜ grows p r ⌝ }
@@ -46,15 +51,12 @@ fn input(
 {
     match read_name(model, f, VALUE_INFO_NAME, Ruling::NAME_EMPTY) {
         Naming::Refused(r) => Step::Refused(r),
-        Naming::Named(name) => {
-            let step = define(model, cells, extra, ix, p, name);
+        Naming::Named(name, odd) => {
+            let step = define(model, cells, extra, ix, with_odd(p, odd), name);
             let Step::Went(q) = step else {
                 return step;
             };
-            match main_type(model, main, f) {
-                Ruling::Refused(r) => Step::Refused(r),
-                Ruling::Kept => Step::Went(q),
-            }
+            counting(q, main_type(model, main, f))
         }
     }
 }
@@ -70,6 +72,7 @@ pub(crate) fn inputs(
 ) -> Step
     requires { ⌜ length (now model) < 2 ^ 32 ⌝ }
     requires { ⌜ Walked (now model) Graph graph ⌝ }
+    requires { ⌜ Countable p (flatMap (valueNames (now model) main) (allOf Graph·input (message (now model) graph))) ⌝ }
     requires { ⌜ Recalling (now model) ix (now cells) (now extra) ⌝ }
     ensures answer { λ r. ⌜ ((k : Context) → k .main ≡ main → stepSays (now (model .entry)) (now (cells .exit)) r ≡ each (input (now (model .entry)) (fills (length (now (cells .entry)))) k) (walkIn (now (model .entry)) (now (cells .entry)) p) (allOf Graph·input (message (now (model .entry)) graph))) ⌝ }
     ensures grown { λ r. ⌜ grows p r ⌝ }

@@ -5,43 +5,45 @@ ghost use mathlib.Core.Bool.{true};
 ghost use lib.ListN.{length, drop};
 ghost use Rattle.schema.specs.declared.Kind.the-variants.{Graph};
 ghost use Rattle.schema.specs.Opened.{Walked};
+ghost use Rattle.rules.specs.Walk.{Walk};
 ghost use Rattle.rules.specs.Verdict.{fills};
-ghost use Rattle.scope.specs.Scope.{walkIn, stepSays, grows, Keeps};
+ghost use Rattle.scope.specs.Scope.{walkIn, stepSays, grows, Countable, Keeps};
 ghost use Rattle.scope.specs.Recall.{Recalling, Minded};
 ghost use Rattle.index.specs.Memory.{known};
-ghost use Rattle.values.specs.Answers.{rulingSays};
-ghost use Rattle.messages.specs.Again.{graphRules, opening};
+ghost use Rattle.values.specs.Answers.{tallySays};
+ghost use Rattle.messages.specs.Again.{openingNames, graphRules, opening};
 use crate::initializers::initializers;
 use crate::inputs::inputs;
 use headers::has;
 use scope::Index;
 use scope::Progress;
 use scope::Step;
-use scope::standing;
+use scope::counting;
 use values::Naming;
 use values::Ruling;
-use values::misnaming;
+use values::Tally;
 use values::numbers::GRAPH_NAME;
 use values::numbers::GRAPH_SPARSE_INITIALIZER;
 use values::read_name;
-use values::refused;
+use values::tally_of;
+use values::uncounted;
 use wire::Field;
 
 // "its name (20, 21); 16"
-fn graph_rules(model: &[u8], f: Field) -> Ruling
-    ensures { λ r. ⌜ rulingSays r ≡ graphRules (now (model .entry)) f ⌝ }
+fn graph_rules(model: &[u8], f: Field) -> Tally
+    ensures { λ r. ⌜ ((w : Walk) → tallySays w r ≡ graphRules (now (model .entry)) w f) ⌝ }
 {
     let naming = read_name(model, f, GRAPH_NAME, Ruling::GRAPH_NAME_EMPTY);
-    let Naming::Named(_) = naming else {
-        return misnaming(naming);
+    let Naming::Named(_, odd) = naming else {
+        return tally_of(naming);
     };
     if has(model, f, GRAPH_SPARSE_INITIALIZER) {
-        return refused(
+        return uncounted(
             Ruling::SPARSE_INITIALIZER,
             f.place_of(model, GRAPH_SPARSE_INITIALIZER),
         );
     }
-    Ruling::Kept
+    Tally::Counted(odd)
 }
 
 // "its name (20, 21); 16; inputs; initializers"
@@ -57,6 +59,7 @@ pub fn opening(
 ) -> Step
     requires { ⌜ length (now model) < 2 ^ 32 ⌝ }
     requires { ⌜ Walked (now model) Graph f ⌝ }
+    requires { ⌜ Countable p (openingNames (now model) main f) ⌝ }
     requires { ⌜ Recalling (now model) ix (now cells) (now extra) ⌝ }
     requires { ⌜ top ≤ known (drop (ix .split) (now extra)) ⌝ }
     requires { ⌜ (main ≡ true → p .used ≡ 0) ⌝ }
@@ -65,11 +68,11 @@ pub fn opening(
     ensures kept { λ _. ⌜ Keeps (p .used) (now (cells .entry)) (now (cells .exit)) ⌝ }
     ensures memory { λ _. ⌜ Minded (now (model .entry)) ix top (now (cells .exit)) (now (extra .entry)) (now (extra .exit)) ⌝ }
 {
-    let ruling = graph_rules(model, f);
-    let Ruling::Kept = ruling else {
-        return standing(p, ruling);
+    let named = counting(p, graph_rules(model, f));
+    let Step::Went(first) = named else {
+        return named;
     };
-    let step = inputs(model, cells, extra, ix, main, p, f);
+    let step = inputs(model, cells, extra, ix, main, first, f);
     let Step::Went(q) = step else {
         return step;
     };

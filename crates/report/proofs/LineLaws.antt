@@ -7,7 +7,7 @@ use native.Mathlib.Omega.{arith}
 use lib.ListN.{length, take, drop, getD, set, length-set, length-append}
 use lib.Seq.{paste, paste-zero, paste-suc, take-length, take-append-seam, drop-append-add, drop-drop}
 use borrow.Author.Tests.{eq-eqb, ne-eqb}
-use Rattle.varint.specs.Outcome.{fail}
+use Rattle.varint.specs.Outcome.{pass, fail}
 use Rattle.varint.specs.Bytes.{Bytes}
 use Rattle.varint.specs.Notation.{ascii}
 use Rattle.varint.specs.declared.Refusal.{Refusal}
@@ -105,14 +105,24 @@ module _ (f : Refusal) {out₀ : Bytes} {r : ℕ} {out : Bytes} where
   unfolding firstOf told
   refused-plain e = ended (sym (append-nil (Head f)) ∙ ap (λ b. Head f ++ told f b) (sym (ne-eqb _ _ e)))
 
-pub line-accepted : (out₀ : Bytes) {a : Answer} {nodes names r s : ℕ} {out next : Bytes}
-    → a ≡ answer.Accepted nodes names → Says out₀ (numbersOf (ascii "accepted nodes ") nodes (ascii " names ") names) r out
-    → s ≡ r + 1 → next ≡ paste out r (0x0A ∷ []) 1
-    → Says out₀ (lineOf (meaning a)) s next
-unfolding lineOf meaning
-line-accepted out₀ {s} {next} e says d p =
-    let w = and-then (0x0A ∷ []) (record { size = says .0; so-far = says .1 }) d p in
-    subst⁻¹ (λ x. Says out₀ (lineOf (meaning x)) s next) e (w .size, w .so-far)
+-- An acceptance's line before ` odd N`.
+abbrev pub Counted : (nodes names : ℕ) → Bytes
+Counted nodes names = numbersOf (ascii "accepted nodes ") nodes (ascii " names ") names
+
+pub counted-written : (nodes names : ℕ) {out₀ : Bytes} {r : ℕ} {out : Bytes} → Says out₀ (Counted nodes names) r out → Written out₀ (Counted nodes names) r out
+counted-written nodes names says = record { size = says .0; so-far = says .1 }
+
+pub accepted-written : (nodes names odd : ℕ) {out₀ : Bytes} {r : ℕ} {out : Bytes}
+    → Written out₀ (Counted nodes names ++ ascii " odd " ++ decimal odd ++ (0x0A ∷ [])) r out
+    → Says out₀ (lineOf (pass (record { nodes = nodes; names = names; odd = odd }))) r out
+unfolding lineOf
+accepted-written nodes names odd w = (w .size, w .so-far)
+
+pub line-accepted : (out₀ : Bytes) {a : Answer} {nodes names odd r : ℕ} {out : Bytes}
+    → a ≡ answer.Accepted nodes names odd → Says out₀ (lineOf (pass (record { nodes = nodes; names = names; odd = odd }))) r out
+    → Says out₀ (lineOf (meaning a)) r out
+unfolding meaning
+line-accepted out₀ {r} {out} e says = subst⁻¹ (λ x. Says out₀ (lineOf (meaning x)) r out) e says
 
 pub line-refused : (out₀ : Bytes) {a : Answer} {f : Refusal} {r : ℕ} {out : Bytes}
     → a ≡ answer.Refused f → Says out₀ (lineOf (fail f)) r out

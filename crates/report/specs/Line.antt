@@ -27,9 +27,9 @@ numbersOf first m second n = first ++ decimal m ++ second ++ decimal n
 unfoldable pub firstOf : Refusal → Bytes
 firstOf r = elim (eqb (r .number) 23) [ true ↦ ascii " first " ++ decimal (r .first) | false ↦ [] ]
 
--- "one line with a newline, `accepted nodes 1 names 1` or `refused 30 at 13`"
+-- "one line with a newline, `accepted nodes 1 names 1` or `refused 30 at 13`"; "An accepted line gains ` odd N`".
 unfoldable pub lineOf : Judged Counts → Bytes
-lineOf (pass c) = numbersOf (ascii "accepted nodes ") (c .nodes) (ascii " names ") (c .names) ++ (0x0A ∷ [])
+lineOf (pass c) = numbersOf (ascii "accepted nodes ") (c .nodes) (ascii " names ") (c .names) ++ ascii " odd " ++ decimal (c .odd) ++ (0x0A ∷ [])
 lineOf (fail r) = numbersOf (ascii "refused ") (r .number) (ascii " at ") (r .place) ++ firstOf r ++ (0x0A ∷ [])
 
 -- A text at the start of a buffer, whose other bytes stay.

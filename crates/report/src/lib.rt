@@ -1,10 +1,11 @@
-// An answer as the line that a program prints: "`accepted nodes 1 names 1` or `refused 30 at 13`", and "The program's line for 23 ends ` first N`."
+// An answer as the line that a program prints: "`accepted nodes 1 names 1` or `refused 30 at 13`", "The program's line for 23 ends ` first N`",
+// and "An accepted line gains ` odd N`".
 ghost use mathlib.Core.Path.{_≡_};
 ghost use Prim.Native.Nat.{_+_, _≤_};
 ghost use lib.ListN.{length};
 ghost use lib.Seq.{paste};
 ghost use Rattle.io.specs.Counts.{Counts};
-ghost use Rattle.varint.specs.Outcome.{fail};
+ghost use Rattle.varint.specs.Outcome.{pass, fail};
 ghost use Rattle.gate.specs.Meaning.{meaning};
 ghost use Rattle.report.specs.Line.{decimal, numbersOf, lineOf, over};
 use gate::Answer;
@@ -12,19 +13,28 @@ use values::Ruling;
 use varint::Refusal;
 
 // Puts the line, its end included, at the start of `out`, whose other bytes stay, and answers how many bytes it has. The longest
-// has three numbers of 20 digits, words of 8, 4 and 7 bytes, and its end: 80.
+// has three numbers of 20 digits, words of 15, 7 and 5 bytes, and its end: 88.
 pub fn line(answer: Answer, out: &mut [u8; 96]) -> usize
     ensures counts { λ r. ⌜ Counts r (now (out .exit)) ⌝ }
     ensures size { λ r. ⌜ r ≡ length (lineOf (meaning answer)) ⌝ }
     ensures text { λ _. ⌜ now (out .exit) ≡ over (lineOf (meaning answer)) (now (out .entry)) ⌝ }
 {
     match answer {
-        Answer::Accepted { nodes, names } => {
-            let at = numbers(b"accepted nodes ", nodes, b" names ", names as u64, out);
-            put(b"\n", out, at)
-        }
+        Answer::Accepted { nodes, names, odd } => accepted(nodes, names as u64, odd, out),
         Answer::Refused(r) => refused(r, out),
     }
+}
+
+// The line of an acceptance.
+fn accepted(nodes: u64, names: u64, odd: u64, out: &mut [u8; 96]) -> usize
+    ensures counts { λ n. ⌜ Counts n (now (out .exit)) ⌝ }
+    ensures size { λ n. ⌜ n ≡ length (lineOf (pass (record { nodes = nodes; names = names; odd = odd }))) ⌝ }
+    ensures text { λ _. ⌜ now (out .exit) ≡ over (lineOf (pass (record { nodes = nodes; names = names; odd = odd }))) (now (out .entry)) ⌝ }
+{
+    let at = numbers(b"accepted nodes ", nodes, b" names ", names, out);
+    let at = put(b" odd ", out, at);
+    let at = put_number(odd, out, at);
+    put(b"\n", out, at)
 }
 
 // The line of a refusal.

@@ -1,4 +1,4 @@
--- The bounds of the runner and of the plain count: a graph is longer than one inside it, so any bound from its length on gives
+-- The bounds of the runner and of the plain counts: a graph is longer than one inside it, so any bound from its length on gives
 -- the same.
 use Prim.Native.Nat.{ℕ, zero, suc, _+_, _≤_, _<_}
 use native.Mathlib.Omega.{arith}
@@ -15,12 +15,13 @@ use Rattle.wire.specs.Message.{allOf, firstOf, message, whole}
 use Rattle.varint.proofs.Lists.{All, If, all-map, all-first, all-mapped, all-append, all-flat, flat-agree}
 use Rattle.varint.proofs.Tells.{Any, any-all, each-agree}
 use Rattle.wire.proofs.Reading.{Fits}
-use Rattle.wire.proofs.Fields.{fields-done, ordered-all, all-of-ordered}
-use Rattle.schema.specs.Numbers.{Model·graph, Graph·node, Graph·initializer, Graph·input, Graph·output, Node·input, Node·output, Tensor·name, ValueInfo·name}
-use Rattle.rules.specs.Names.{Name, nameOf, nameIn, inputsOf, bodiesIn}
+use Rattle.wire.proofs.Fields.{fields-done, message-ordered, keep-ordered, ordered-all, all-of-ordered}
+use Rattle.schema.specs.Numbers.{Model·graph, Graph·node, Graph·initializer, Graph·input, Graph·output, Node·input, Node·output, Node·attribute}
+use Rattle.schema.specs.Numbers.{Tensor·name, ValueInfo·name}
+use Rattle.rules.specs.Names.{Name, nameOf, nameIn, bodiesOf, inputsOf, bodiesIn}
 use Rattle.rules.specs.Runner.{Action, binds, reads, visits, unlessEmpty, initializers, nodeScript, script}
 use Rattle.rules.specs.Runner.{Run, Ran, begin, chosen, choose, times, perform, runGraph, runTo, run}
-use Rattle.rules.specs.Count.{nodesIn, nodesTo, nodeCount}
+use Rattle.rules.specs.Count.{nodesIn, nodesTo, nodeCount, odds, attributeNames, nodeNames, graphNames, namesIn, oddTo, oddIn}
 use Rattle.rules.proofs.Scripts.{bodies-ordered}
 
 -- a body inside a graph begins after it and ends in time
@@ -136,6 +137,44 @@ module _ (model : Bytes) where
       (λ b j. nodes-agree n m b (omega arith) (omega arith)) (bodiesIn model x) (bodies-inside f x i)))
       (allOf Graph·node (message model f)) (nodes-inside f)
 
+  -- ---- the names
+
+  attributes-inside : (f n : Field) → Fits (f .start) (f .next) n → All (Fits (f .start) (f .next)) (allOf Node·attribute (message model n))
+  attributes-inside f n h =
+      let list = allOf Node·attribute (message model n) in
+      all-map (Fits (n .start) (n .next)) (Fits (f .start) (f .next)) (λ a k. (omega arith, k .1, k .2, omega arith)) list
+      (ordered-all (n .start) (n .next) list (all-of-ordered model Node·attribute n))
+
+  bodies-of-inside : (f a : Field) → Fits (f .start) (f .next) a → All (Inside f) (bodiesOf (message model a))
+  unfolding bodiesOf
+  bodies-of-inside f a h =
+      all-map (Fits (a .start) (a .next)) (Inside f) (λ b k. (omega arith, omega arith, omega arith)) (bodiesOf (message model a))
+      (ordered-all (a .start) (a .next) (bodiesOf (message model a)) (keep-ordered _ (a .start) (a .next) (message model a .fields) (message-ordered model a)))
+
+  module _ (f : Field) (k l : Field → List Bytes) (agree : (b : Field) → Inside f b → k b ≡ l b) where
+    attribute-names : (a : Field) → Fits (f .start) (f .next) a → attributeNames model k a ≡ attributeNames model l a
+    unfolding attributeNames
+    attribute-names a h = rw (flat-agree (Inside f) k l agree (bodiesOf (message model a)) (bodies-of-inside f a h)) refl
+
+    node-names : (n : Field) → Fits (f .start) (f .next) n → nodeNames model k n ≡ nodeNames model l n
+    unfolding nodeNames
+    node-names n h = rw (flat-agree (Fits (f .start) (f .next)) (attributeNames model k) (attributeNames model l) attribute-names
+        (allOf Node·attribute (message model n)) (attributes-inside f n h)) refl
+
+    graph-names : (main : Bool) → graphNames model k main f ≡ graphNames model l main f
+    unfolding graphNames
+    graph-names main = rw (flat-agree (Fits (f .start) (f .next)) (nodeNames model k) (nodeNames model l) node-names
+        (allOf Graph·node (message model f)) (nodes-inside f)) refl
+
+  -- a graph with no bytes has a name too, the empty one: so there must be a bound for it
+  names-agree : (n m : ℕ) (main : Bool) (f : Field) → f .start ≤ f .next → f .next < f .start + n → f .next < f .start + m
+      → namesIn model n main f ≡ namesIn model m main f
+  unfolding namesIn
+  names-agree zero m main f o h k = absurd (omega arith)
+  names-agree (suc n) zero main f o h k = absurd (omega arith)
+  names-agree (suc n) (suc m) main f o h k =
+      graph-names f (namesIn model n false) (namesIn model m false) (λ b i. names-agree n m false b (i .1) (omega arith) (omega arith)) main
+
   -- ---- the whole model
 
   main-fits : If (Fits 0 (length model)) (firstOf Model·graph (message model (whole model)))
@@ -163,3 +202,13 @@ module _ (model : Bytes) where
           (elim o [ none ↦ 0 | some g ↦ length (nodesIn model (length model) g) ])
       go none i = refl
       go (some g) i = ap (λ (l : List Field). length l) (nodes-agree bound (length model) g (omega arith) (omega arith))
+
+  pub odd-bound : (bound : ℕ) → length model ≤ bound → oddTo model bound ≡ oddIn model
+  unfolding oddTo oddIn
+  odd-bound bound h = go (firstOf Model·graph (message model (whole model))) main-fits
+    where
+      go : (o : Option Field) → If (Fits 0 (length model)) o → _≡_ {A = ℕ}
+          (elim o [ none ↦ 0 | some g ↦ odds (namesIn model bound true g) ])
+          (elim o [ none ↦ 0 | some g ↦ odds (namesIn model (length model) true g) ])
+      go none i = refl
+      go (some g) i = ap (λ (l : List Bytes). odds l) (names-agree bound (length model) true g (i .2) (omega arith) (omega arith))

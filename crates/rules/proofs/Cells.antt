@@ -14,16 +14,19 @@ use Rattle.varint.specs.declared.Refusal.{Refusal}
 use Rattle.wire.specs.declared.Field.{Field}
 use Rattle.varint.specs.Lists.{isEmpty}
 use Rattle.varint.specs.Bytes.{Bytes}
-use Rattle.wire.specs.Message.{allOf, firstOf, text, message, whole}
+use Rattle.wire.specs.Message.{Message, allOf, firstOf, text, message, whole}
 use Rattle.schema.specs.Numbers.{Model·graph, Graph·node, Graph·name, Graph·initializer, Graph·input, Graph·output, ValueInfo·name}
 use Rattle.schema.specs.Numbers.{Tensor·name, Node·input, Node·output, Node·op-type, Node·attribute, Attribute·name}
-use Rattle.rules.specs.Names.{Name, nameIn, bodiesOf, inputsOf}
-use Rattle.rules.specs.Walk.{Context, nestedIn, inMain, Walk, start, withName, withNode, leaving, Along, along, visible, definedAt, naming, define}
+use Rattle.rules.specs.Names.{Name, nameOf, nameIn, bodiesOf, inputsOf}
+use Rattle.rules.specs.Walk.{Context, nestedIn, inMain, Walk, start, withName, withNode, withTested, leaving, Along, along, visible}
+use Rattle.rules.specs.Walk.{definedAt, tested, naming, define}
 use Rattle.rules.specs.Types.{declaredType}
 use Rattle.rules.specs.Node.{nodeName, nodeInput, nodeOutput, body, attribute, node}
 use Rattle.rules.specs.Graph.{input, isDefault, defaultOrNew, initializer, output, graphWith, graph}
 use Rattle.rules.specs.Header.{header, secondWalkTo, secondWalk}
 use Rattle.rules.specs.Verdict.{room, fills}
+use Rattle.rules.proofs.Rules.{Adds, Type·refusals, main-type-tells, nodeName-tells}
+use Rattle.varint.proofs.Tells.{Tells, Any, any-all, Among, tells-weaken}
 use Rattle.varint.proofs.Passing.{fail-no-pass}
 
 -- the cells were full
@@ -102,7 +105,20 @@ module _ (cells : ℕ) (ample : ℕ → Bool) (wider : (visible : ℕ) → visib
   abbrev mostOf : Along → ℕ
   mostOf w = w .walk .most
 
-  -- a step that takes no name, and the rest
+  -- a step that knows no cells and takes no name
+  held-same : {A : Type 0} (m : A → ℕ) (lo : ℕ) (j : Judged A) → Tells (λ a. m a ≡ lo) Any j → Held m lo j j
+  held-same m lo (pass a) t = (omega arith, λ h. inl (omega arith, refl))
+  held-same m lo (fail r) t = λ l. inl refl
+
+  held-tested : (w : Walk) (x : Name) → Held most (most w) (tested w x) (tested w x)
+  unfolding tested withTested
+  held-tested w x = same-seq most (most w) (refuse 21 at: _ when: _) _ _ (held-pass most (withTested w x))
+
+  held-naming : (empty : ℕ) (w : Walk) (x : Name) → Held most (most w) (naming empty w x) (naming empty w x)
+  unfolding naming
+  held-naming empty w x = same-seq most (most w) (refuse empty at: _ when: _) (tested w x) (tested w x) (held-tested w x)
+
+  -- a step that has no state, and the rest
   skip : {A B : Type 0} (k : B → ℕ) (lo : ℕ) (j : Judged A) (f g : A → Judged B) → ((a : A) → Held k lo (f a) (g a)) → Held k lo (j >>= f) (j >>= g)
   skip k lo j f g h = same-bind (λ _. 0) k lo j f g h
 
@@ -123,38 +139,73 @@ module _ (cells : ℕ) (ample : ℕ → Bool) (wider : (visible : ℕ) → visib
       go false false false yes′ no′ = let h = no′ tt .0 in (omega arith, λ l. inl (omega arith, refl))
 
   module _ (model : Bytes) where
+    held-node-input : (w : Walk) (f : Field) → Held most (most w) (nodeInput model w f) (nodeInput model w f)
+    unfolding nodeInput
+    held-node-input w f = go (isEmpty (text model f)) (λ v. refuse 30 at: f .place when: not (visible (text model f) (v .scope)))
+      where
+        go : (b : Bool) (rule : Walk → Rule) → Held most (most w)
+            (elim b [ true ↦ pass w | false ↦ tested w (nameIn model f) >>= λ v. rule v >> pass v ])
+            (elim b [ true ↦ pass w | false ↦ tested w (nameIn model f) >>= λ v. rule v >> pass v ])
+        go true rule = held-pass most w
+        go false rule =
+            held-bind most most (most w) (tested w (nameIn model f)) (tested w (nameIn model f)) _ _ (held-tested w (nameIn model f))
+            (λ v. same-seq most (most v) (rule v) (pass v) (pass v) (held-pass most v))
+
     held-output : (w : Walk) (f : Field) → Held most (most w) (nodeOutput model limit w f) (nodeOutput model ample w f)
     unfolding nodeOutput
-    held-output w f = go (isEmpty (text model f)) (refuse 21 at: _ when: _)
+    held-output w f = go (isEmpty (text model f))
       where
-        go : (b : Bool) (rule : Rule) → Held most (most w)
-            (elim b [ true ↦ pass w | false ↦ rule >> define limit w (nameIn model f) ])
-            (elim b [ true ↦ pass w | false ↦ rule >> define ample w (nameIn model f) ])
-        go true rule = held-pass most w
-        go false rule = same-seq most (most w) rule (define limit w (nameIn model f)) (define ample w (nameIn model f)) (held-define w (nameIn model f))
+        go : (b : Bool) → Held most (most w)
+            (elim b [ true ↦ pass w | false ↦ tested w (nameIn model f) >>= λ v. define limit v (nameIn model f) ])
+            (elim b [ true ↦ pass w | false ↦ tested w (nameIn model f) >>= λ v. define ample v (nameIn model f) ])
+        go true = held-pass most w
+        go false =
+            held-bind most most (most w) (tested w (nameIn model f)) (tested w (nameIn model f)) _ _ (held-tested w (nameIn model f))
+            (λ v. held-define v (nameIn model f))
+
+    held-name : (earlier : List Bytes) (w : Walk) (m : Message) → Held mostOf (most w) (nodeName model earlier w m) (nodeName model earlier w m)
+    held-name earlier w m = held-same mostOf (most w) (nodeName model earlier w m)
+        (tells-weaken (λ n. Adds w _ (n .walk)) (λ n. mostOf n ≡ most w) (Among (21 ∷ 29 ∷ []) Any) Any (nodeName model earlier w m) (λ n a. a .2) (λ r _. tt)
+        (nodeName-tells model Any Any (λ f g. tt) (λ f g. any-all (message model f .fields)) earlier w m (tt, any-all (m .fields))))
+
+    held-type : (c : Context) (v : Message) (w : Walk) → Held most (most w) (inMain c (declaredType model v) w) (inMain c (declaredType model v) w)
+    held-type c v w = held-same most (most w) (inMain c (declaredType model v) w)
+        (tells-weaken (Adds w _) (λ u. most u ≡ most w) (Among Type·refusals Any) Any (inMain c (declaredType model v) w) (λ u a. a .2) (λ r _. tt)
+        (main-type-tells model Any Any (λ f g. tt) (λ f g. any-all (message model f .fields)) c v w (tt, any-all (v .fields))))
 
     module _ (c : Context) where
       held-input : (w : Walk) (f : Field) → Held most (most w) (input model limit c w f) (input model ample c w f)
       unfolding input
-      held-input w f = skip most (most w) (naming model 22 ValueInfo·name (message model f)) _ _ (λ x.
-          held-bind most most (most w) (define limit w x) (define ample w x) _ _ (held-define w x) (λ v.
-          same-seq most (most v) (inMain c (declaredType model (message model f))) (pass v) (pass v) (held-pass most v)))
+      held-input w f =
+          let x = nameOf model ValueInfo·name (message model f) in
+          held-bind most most (most w) (naming 22 w x) (naming 22 w x) _ _ (held-naming 22 w x) (λ t.
+          held-bind most most (most t) (define limit t x) (define ample t x) _ _ (held-define t x) (λ v. held-type c (message model f) v))
 
-      held-default : (inputs : List Bytes) (w : Along) (x : Name) → Held most (mostOf w) (defaultOrNew limit c inputs w x) (defaultOrNew ample c inputs w x)
+      held-default : (inputs earlier : List Bytes) (w : Walk) (x : Name)
+          → Held most (most w) (defaultOrNew limit c inputs earlier w x) (defaultOrNew ample c inputs earlier w x)
       unfolding defaultOrNew
-      held-default inputs w x = go (isDefault c inputs (w .earlier) (x .bytes))
+      held-default inputs earlier w x = go (isDefault c inputs earlier (x .bytes))
         where
           go : (b : Bool)
-              → Held most (mostOf w) (elim b [ true ↦ pass (w .walk) | false ↦ define limit (w .walk) x ])
-              (elim b [ true ↦ pass (w .walk) | false ↦ define ample (w .walk) x ])
-          go true = held-pass most (w .walk)
-          go false = held-define (w .walk) x
+              → Held most (most w) (elim b [ true ↦ pass w | false ↦ define limit w x ]) (elim b [ true ↦ pass w | false ↦ define ample w x ])
+          go true = held-pass most w
+          go false = held-define w x
 
       held-initializer : (inputs : List Bytes) (w : Along) (f : Field) → Held mostOf (mostOf w) (initializer model limit c inputs w f) (initializer model ample c inputs w f)
       unfolding initializer
-      held-initializer inputs w f = skip mostOf (mostOf w) (naming model 22 Tensor·name (message model f)) _ _ (λ x.
-          held-bind most mostOf (mostOf w) (defaultOrNew limit c inputs w x) (defaultOrNew ample c inputs w x) _ _ (held-default inputs w x) (λ v.
+      held-initializer inputs w f =
+          let x = nameOf model Tensor·name (message model f) in
+          held-bind most mostOf (mostOf w) (naming 22 (w .walk) x) (naming 22 (w .walk) x) _ _ (held-naming 22 (w .walk) x) (λ t.
+          held-bind most mostOf (most t) (defaultOrNew limit c inputs (w .earlier) t x) (defaultOrNew ample c inputs (w .earlier) t x) _ _
+          (held-default inputs (w .earlier) t x) (λ v.
           same-seq mostOf (most v) (refuse 26 at: _ when: _) _ _ (held-pass mostOf (record { walk = v; earlier = x .bytes ∷ w .earlier }))))
+
+      held-graph-output : (w : Walk) (f : Field) → Held most (most w) (output model c w f) (output model c w f)
+      unfolding output
+      held-graph-output w f =
+          let x = nameOf model ValueInfo·name (message model f) in
+          held-bind most most (most w) (naming 22 w x) (naming 22 w x) _ _ (held-naming 22 w x) (λ v.
+          same-seq most (most v) (refuse 35 at: _ when: _) _ _ (held-type c (message model f) v))
 
       module _ (J K : Walk → Field → Judged Walk) (nest : (w : Walk) (f : Field) → Held most (most w) (J w f) (K w f)) where
         held-body : (w : Walk) (f : Field) → Held most (most w) (body J w f) (body K w f)
@@ -163,37 +214,43 @@ module _ (cells : ℕ) (ample : ℕ → Bool) (wider : (visible : ℕ) → visib
 
         held-attribute : (w : Along) (f : Field) → Held mostOf (mostOf w) (attribute model J w f) (attribute model K w f)
         unfolding attribute
-        held-attribute w f = skip mostOf (mostOf w) (naming model 22 Attribute·name (message model f)) _ _ (λ x.
-            same-seq mostOf (mostOf w) (refuse 31 at: _ when: _) _ _
-            (same-seq mostOf (mostOf w) (refuse 33 at: _ when: _) _ _ (same-seq mostOf (mostOf w) (refuse 32 at: _ when: _) _ _
-            (held-bind most mostOf (mostOf w) (each (body J) (w .walk) (bodiesOf (message model f))) (each (body K) (w .walk) (bodiesOf (message model f))) _ _
-            (held-each most (body J) (body K) held-body (w .walk) (bodiesOf (message model f)))
+        held-attribute w f =
+            let x = nameOf model Attribute·name (message model f) in
+            held-bind most mostOf (mostOf w) (naming 22 (w .walk) x) (naming 22 (w .walk) x) _ _ (held-naming 22 (w .walk) x) (λ t.
+            same-seq mostOf (most t) (refuse 31 at: _ when: _) _ _
+            (same-seq mostOf (most t) (refuse 33 at: _ when: _) _ _ (same-seq mostOf (most t) (refuse 32 at: _ when: _) _ _
+            (held-bind most mostOf (most t) (each (body J) t (bodiesOf (message model f))) (each (body K) t (bodiesOf (message model f))) _ _
+            (held-each most (body J) (body K) held-body t (bodiesOf (message model f)))
             (λ v. held-pass mostOf (record { walk = v; earlier = x .bytes ∷ w .earlier }))))))
 
         held-node : (w : Along) (f : Field) → Held mostOf (mostOf w) (node model limit c J w f) (node model ample c K w f)
         unfolding node withNode along
         held-node w f =
             let m = message model f in
-            skip mostOf (mostOf w) (naming model 27 Node·op-type m) _ _ (λ x.
-            same-seq mostOf (mostOf w) (refuse 28 at: _ when: _) _ _
-            (skip mostOf (mostOf w) (nodeName model (w .earlier) m) _ _ (λ names.
-            same-seq mostOf (mostOf w) (each (nodeInput model (w .walk .scope)) tt (allOf Node·input m)) _ _
-            (held-bind mostOf mostOf (mostOf w) (each (attribute model J) (along (w .walk)) (allOf Node·attribute m))
-            (each (attribute model K) (along (w .walk)) (allOf Node·attribute m)) _ _
-            (held-each mostOf (attribute model J) (attribute model K) held-attribute (along (w .walk)) (allOf Node·attribute m))
+            let x = nameOf model Node·op-type m in
+            held-bind most mostOf (mostOf w) (naming 27 (w .walk) x) (naming 27 (w .walk) x) _ _ (held-naming 27 (w .walk) x) (λ t.
+            same-seq mostOf (most t) (refuse 28 at: _ when: _) _ _
+            (held-bind mostOf mostOf (most t) (nodeName model (w .earlier) t m) (nodeName model (w .earlier) t m) _ _ (held-name (w .earlier) t m) (λ n.
+            held-bind most mostOf (mostOf n) (each (nodeInput model) (n .walk) (allOf Node·input m)) (each (nodeInput model) (n .walk) (allOf Node·input m)) _ _
+            (held-each most (nodeInput model) (nodeInput model) held-node-input (n .walk) (allOf Node·input m))
+            (λ i. held-bind mostOf mostOf (most i) (each (attribute model J) (along i) (allOf Node·attribute m))
+            (each (attribute model K) (along i) (allOf Node·attribute m)) _ _
+            (held-each mostOf (attribute model J) (attribute model K) held-attribute (along i) (allOf Node·attribute m))
             (λ v. same-seq mostOf (mostOf v) (refuse 34 at: _ when: _) _ _
-            (held-bind most mostOf (mostOf v) (each (nodeOutput model limit) (v .walk) (allOf Node·output m)) (each (nodeOutput model ample) (v .walk) (allOf Node·output m)) _ _
+            (held-bind most mostOf (mostOf v) (each (nodeOutput model limit) (v .walk) (allOf Node·output m))
+            (each (nodeOutput model ample) (v .walk) (allOf Node·output m)) _ _
             (held-each most (nodeOutput model limit) (nodeOutput model ample) held-output (v .walk) (allOf Node·output m))
-            (λ u. held-pass mostOf (record { walk = withNode u; earlier = names }))))))))
+            (λ u. held-pass mostOf (record { walk = withNode u; earlier = n .earlier }))))))))
 
         held-graph : (w : Walk) (f : Field) → Held most (most w) (graphWith model limit c J w f) (graphWith model ample c K w f)
         unfolding graphWith along
         held-graph w f =
             let g = message model f in
-            skip most (most w) (naming model 20 Graph·name g) _ _ (λ x.
-            same-seq most (most w) (refuse 16 at: _ when: _) _ _
-            (held-bind most most (most w) (each (input model limit c) w (allOf Graph·input g)) (each (input model ample c) w (allOf Graph·input g)) _ _
-            (held-each most (input model limit c) (input model ample c) held-input w (allOf Graph·input g))
+            let x = nameOf model Graph·name g in
+            held-bind most most (most w) (naming 20 w x) (naming 20 w x) _ _ (held-naming 20 w x) (λ t.
+            same-seq most (most t) (refuse 16 at: _ when: _) _ _
+            (held-bind most most (most t) (each (input model limit c) t (allOf Graph·input g)) (each (input model ample c) t (allOf Graph·input g)) _ _
+            (held-each most (input model limit c) (input model ample c) held-input t (allOf Graph·input g))
             (λ v. held-bind mostOf most (most v) (each (initializer model limit c (inputsOf model g)) (along v) (allOf Graph·initializer g))
             (each (initializer model ample c (inputsOf model g)) (along v) (allOf Graph·initializer g)) _ _
             (held-each mostOf (initializer model limit c (inputsOf model g)) (initializer model ample c (inputsOf model g))
@@ -201,7 +258,7 @@ module _ (cells : ℕ) (ample : ℕ → Bool) (wider : (visible : ℕ) → visib
             (λ i. held-bind mostOf most (mostOf i) (each (node model limit c J) (along (i .walk)) (allOf Graph·node g))
             (each (node model ample c K) (along (i .walk)) (allOf Graph·node g)) _ _
             (held-each mostOf (node model limit c J) (node model ample c K) held-node (along (i .walk)) (allOf Graph·node g))
-            (λ n. same-seq most (mostOf n) (each (output model c (n .walk .scope)) tt (allOf Graph·output g)) (pass (n .walk)) (pass (n .walk)) (held-pass most (n .walk)))))))
+            (λ n. held-each most (output model c) (output model c) held-graph-output (n .walk) (allOf Graph·output g))))))
 
     held-depths : (left : ℕ) (c : Context) (w : Walk) (f : Field) → Held most (most w) (graph model limit left c w f) (graph model ample left c w f)
     unfolding graph

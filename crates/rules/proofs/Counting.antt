@@ -1,29 +1,32 @@
--- The count of nodes: where the judge passes a graph it has counted just the node fields of that graph and of those within.
+-- The counts of nodes and of odd names: where the judge passes a graph it has counted just the node fields, and the names that
+-- are no identifiers, of that graph and of those within.
 use Prim.Native.Nat.{ℕ, zero, suc, _+_}
 use native.Mathlib.Omega.{arith}
 use native.Mathlib.Nat.{add-suc}
-use mathlib.Core.Path.{_≡_, refl, ap}
-use mathlib.Core.Bool.{Bool, true}
+use mathlib.Core.Path.{_≡_, refl, ap, _∙_}
+use mathlib.Core.Bool.{Bool, true, false}
 use mathlib.Core.List.{List, [], _∷_, _++_, flatMap}
 use mathlib.Core.Option.{Option, none, some}
 use lib.ListN.{length, length-append}
 use Rattle.varint.specs.Outcome.{pass, _>>=_, _>>_, each, Judged, Rule, refused, refuse_at:_when:_, refuse_at:_first:_when:_}
 use Rattle.wire.specs.declared.Field.{Field}
-use Rattle.varint.specs.Lists.{isEmpty}
+use Rattle.varint.specs.Lists.{isEmpty, keep}
 use Rattle.varint.specs.Bytes.{Bytes}
-use Rattle.wire.specs.Message.{allOf, firstOf, text, message, whole}
+use Rattle.wire.specs.Message.{Message, allOf, firstOf, text, bytesOf, message, whole}
 use Rattle.varint.proofs.Lists.{flat-flat}
-use Rattle.varint.proofs.Tells.{Tells, Any, any-all, anything, tells-bind, tells-weaken, tells-seq, tells-if, tells-each}
+use Rattle.varint.proofs.Tells.{Tells, Any, any-all, Among, anything, tells-bind, tells-weaken, tells-seq, tells-if}
 use Rattle.schema.specs.Numbers.{Model·graph, Graph·node, Graph·name, Graph·initializer, Graph·input, Graph·output, ValueInfo·name}
-use Rattle.schema.specs.Numbers.{Tensor·name, Node·input, Node·output, Node·op-type, Node·attribute, Attribute·name}
-use Rattle.rules.specs.Names.{Name, nameIn, bodiesOf, inputsOf, bodiesIn}
-use Rattle.rules.specs.Walk.{Context, nestedIn, inMain, Walk, GraphJudge, start, withName, withNode, leaving, Along, along, naming, define}
-use Rattle.rules.specs.Types.{declaredType}
+use Rattle.schema.specs.Numbers.{Tensor·name, Node·input, Node·output, Node·name, Node·op-type, Node·attribute, Attribute·name, Dimension·dim-param}
+use Rattle.rules.specs.Names.{Name, nameOf, nameIn, bodiesOf, inputsOf, bodiesIn}
+use Rattle.rules.specs.Walk.{Context, nestedIn, inMain, Walk, GraphJudge, start, withName, withNode, leaving, Along, along, tested, naming, define}
+use Rattle.rules.specs.Types.{dim, declaredType}
 use Rattle.rules.specs.Node.{nodeName, nodeInput, nodeOutput, body, attribute, node}
 use Rattle.rules.specs.Graph.{input, isDefault, defaultOrNew, initializer, output, graphWith, graph}
 use Rattle.rules.specs.Header.{header, secondWalkTo, secondWalk}
-use Rattle.rules.specs.Count.{nodesIn, nodesTo, nodeCount}
-use Rattle.rules.proofs.Bounds.{nodes-bound}
+use Rattle.rules.specs.Count.{nodesIn, nodesTo, nodeCount, odds, valueNames, attributeNames, nodeNames, graphNames, namesIn, oddTo, oddIn}
+use Rattle.rules.proofs.Rules.{Adds, dim-tells, odds-append, odds-none, map-flat, tested-tells, naming-tells}
+use Rattle.rules.proofs.Rules.{Type·refusals, inType, main-type-tells, nodeName-tells}
+use Rattle.rules.proofs.Bounds.{nodes-bound, odd-bound}
 
 -- what comes after a step of which nothing is asked
 pub after : {A B : Type 0} (R : B → Type 0) (j : Judged A) (f : A → Judged B) → ((a : A) → Tells R Any (f a)) → Tells R Any (j >>= f)
@@ -32,130 +35,250 @@ after R j f h = tells-bind Any R Any j f (anything j) (λ a _. h a)
 pub past : {B : Type 0} (R : B → Type 0) (j : Rule) (k : Judged B) → Tells R Any k → Tells R Any (j >> k)
 past R j k h = tells-seq R Any j k (anything j) h
 
--- the nodes of a state grow by those of a list
-abbrev Grows : {S : Type 0} → (S → ℕ) → S → List Field → S → Type 0
-Grows n s l t = n t ≡ n s + length l
+-- both counts of a walk grow
+abbrev pub Grew : Walk → (nodes names : ℕ) → Walk → Type 0
+Grew w k j v = (v .nodes ≡ w .nodes + k) × (v .odd ≡ w .odd + j)
 
-module _ {A S : Type 0} (n : S → ℕ) (k : A → List Field) (step : S → A → Judged S) (one : (s : S) (a : A) → Tells (Grows n s (k a)) Any (step s a)) where
-  grows-each : (as′ : List A) (s : S) → Tells (Grows n s (flatMap k as′)) Any (each step s as′)
-  unfolding each flatMap
-  grows-each [] s = omega arith
-  grows-each (a ∷ more) s = tells-bind (Grows n s (k a)) (Grows n s (k a ++ flatMap k more)) Any (step s a) _ (one s a) (λ t e.
-      tells-weaken (Grows n t (flatMap k more)) (Grows n s (k a ++ flatMap k more)) Any Any (each step t more)
-      (λ u q. let l = length-append (k a) (flatMap k more) in omega arith) (λ r _. tt) (grows-each more t))
+-- the same of a state that holds a walk
+abbrev pub GrewIn : {S : Type 0} → (S → Walk) → S → (nodes names : ℕ) → S → Type 0
+GrewIn walkOf s k j t = Grew (walkOf s) k j (walkOf t)
 
--- and stay as they are
-abbrev pub Stays : ℕ → Walk → Type 0
-Stays n w = w .nodes ≡ n
+module _ {A S : Type 0} (walkOf : S → Walk) (k : A → List Field) (j : A → List Bytes) (step : S → A → Judged S)
+    (one : (s : S) (a : A) → Tells (GrewIn walkOf s (length (k a)) (odds (j a))) Any (step s a)) where
+  pub grew-each : (as′ : List A) (s : S) → Tells (GrewIn walkOf s (length (flatMap k as′)) (odds (flatMap j as′))) Any (each step s as′)
+  unfolding each flatMap odds keep
+  grew-each [] s = (omega arith, omega arith)
+  grew-each (a ∷ more) s =
+      let R : S → Type 0 = GrewIn walkOf s (length (k a ++ flatMap k more)) (odds (j a ++ flatMap j more)) in
+      let l = length-append (k a) (flatMap k more) in
+      let m = odds-append (j a) (flatMap j more) in
+      tells-bind (GrewIn walkOf s (length (k a)) (odds (j a))) R Any (step s a) _ (one s a) (λ t e.
+      tells-weaken (GrewIn walkOf t (length (flatMap k more)) (odds (flatMap j more))) R Any Any (each step t more)
+      (λ u q. (omega arith, omega arith)) (λ r _. tt) (grew-each more t))
 
-abbrev nodesOf : Along → ℕ
-nodesOf w = w .walk .nodes
+no-nodes : {A : Type 0} (l : List A) → length (flatMap {B = Field} (λ _. []) l) ≡ 0
+unfolding flatMap
+no-nodes [] = refl
+no-nodes (a ∷ l) = no-nodes l
 
-stays-define : (full : ℕ → Bool) (n : ℕ) (w : Walk) (x : Name) → Stays n w → Tells (Stays n) Any (define full w x)
+-- steps with no nodes in them
+module _ {A S : Type 0} (walkOf : S → Walk) (j : A → List Bytes) (step : S → A → Judged S)
+    (one : (s : S) (a : A) → Tells (GrewIn walkOf s 0 (odds (j a))) Any (step s a)) where
+  pub names-each : (as′ : List A) (s : S) → Tells (GrewIn walkOf s 0 (odds (flatMap j as′))) Any (each step s as′)
+  names-each as′ s = rw (no-nodes as′) at (grew-each walkOf (λ _. []) j step one as′ s)
+
+abbrev itself : Walk → Walk
+itself w = w
+
+abbrev along′ : Along → Walk
+along′ w = w .walk
+
+pub grew-define : (full : ℕ → Bool) (w : Walk) (x : Name) → Tells (Grew w 0 0) Any (define full w x)
 unfolding define withName
-stays-define full n w x e = past (Stays n) (refuse 23 at: _ first: _ when: _) _ (past (Stays n) (refuse 40 at: _ when: _) _ e)
+grew-define full w x = past (Grew w 0 0) (refuse 23 at: _ first: _ when: _) _ (past (Grew w 0 0) (refuse 40 at: _ when: _) _ (omega arith, omega arith))
+
+module _ (model : Bytes) where
+  pub grew-dim : (w : Walk) (f : Field) → Tells (Adds w (odds (bytesOf model Dimension·dim-param (message model f) ∷ []))) Any (dim model w f)
+  grew-dim w f =
+      tells-weaken (Adds w _) (Adds w _) (Among Type·refusals Any) Any (dim model w f) (λ u a. a) (λ r _. tt)
+      (dim-tells model Any Any (λ g h. tt) (λ g h. any-all (message model g .fields)) w f tt)
+
+  abbrev pub typed : Context → Message → List Bytes
+  typed c v = inType model Any Any (λ f g. tt) (λ f g. any-all (message model f .fields)) c v
+
+  pub grew-type : (c : Context) (v : Message) (w : Walk) → Tells (Adds w (odds (typed c v))) Any (inMain c (declaredType model v) w)
+  grew-type c v w =
+      tells-weaken (Adds w _) (Adds w _) (Among Type·refusals Any) Any (inMain c (declaredType model v) w) (λ u a. a) (λ r _. tt)
+      (main-type-tells model Any Any (λ f g. tt) (λ f g. any-all (message model f .fields)) c v w (tt, any-all (v .fields)))
+
+  pub grew-name : (earlier : List Bytes) (w : Walk) (m : Message)
+      → Tells (λ n. Adds w (odds (bytesOf model Node·name m ∷ [])) (n .walk)) Any (nodeName model earlier w m)
+  grew-name earlier w m =
+      let R : Along → Type 0 = λ n. Adds w (odds (bytesOf model Node·name m ∷ [])) (n .walk) in
+      tells-weaken R R (Among (21 ∷ 29 ∷ []) Any) Any (nodeName model earlier w m) (λ n a. a) (λ r _. tt)
+      (nodeName-tells model Any Any (λ f g. tt) (λ f g. any-all (message model f .fields)) earlier w m (tt, any-all (m .fields)))
 
 module _ (model : Bytes) (full : ℕ → Bool) where
-  pub stays-output : (n : ℕ) (w : Walk) (f : Field) → Stays n w → Tells (Stays n) Any (nodeOutput model full w f)
-  unfolding nodeOutput
-  stays-output n w f e = tells-if (Stays n) Any (isEmpty (text model f)) _ _ (λ b. e) (λ b. past (Stays n) (refuse 21 at: _ when: _) _ (stays-define full n w (nameIn model f) e))
+  pub grew-node-input : (w : Walk) (f : Field) → Tells (Grew w 0 (odds (text model f ∷ []))) Any (nodeInput model w f)
+  unfolding nodeInput nameIn
+  grew-node-input w f =
+      let R : Walk → Type 0 = Grew w 0 (odds (text model f ∷ [])) in
+      tells-if R Any (isEmpty (text model f)) _ _ (λ b. let e = odds-none (text model f) b in (omega arith, omega arith)) (λ b.
+      tells-bind (Adds w (odds (text model f ∷ []))) R Any (tested w (nameIn model f)) _ (tested-tells Any w (nameIn model f) b tt) (λ v h.
+      past R (refuse 30 at: _ when: _) (pass v) (omega arith, omega arith)))
+
+  pub grew-node-output : (w : Walk) (f : Field) → Tells (Grew w 0 (odds (text model f ∷ []))) Any (nodeOutput model full w f)
+  unfolding nodeOutput nameIn
+  grew-node-output w f =
+      let R : Walk → Type 0 = Grew w 0 (odds (text model f ∷ [])) in
+      tells-if R Any (isEmpty (text model f)) _ _ (λ b. let e = odds-none (text model f) b in (omega arith, omega arith)) (λ b.
+      tells-bind (Adds w (odds (text model f ∷ []))) R Any (tested w (nameIn model f)) _ (tested-tells Any w (nameIn model f) b tt) (λ v h.
+      tells-weaken (Grew v 0 0) R Any Any (define full v (nameIn model f)) (λ u i. (omega arith, omega arith)) (λ r _. tt)
+      (grew-define full v (nameIn model f))))
 
   module _ (c : Context) where
-    pub stays-input : (n : ℕ) (w : Walk) (f : Field) → Stays n w → Tells (Stays n) Any (input model full c w f)
-    unfolding input
-    stays-input n w f e = after (Stays n) (naming model 22 ValueInfo·name (message model f)) _ (λ x.
-        tells-bind (Stays n) (Stays n) Any (define full w x) _ (stays-define full n w x e) (λ v q. past (Stays n) (inMain c (declaredType model (message model f))) (pass v) q))
+    pub grew-input : (w : Walk) (f : Field) → Tells (Grew w 0 (odds (valueNames model (c .main) f))) Any (input model full c w f)
+    unfolding input nameOf valueNames
+    grew-input w f =
+        let x = nameOf model ValueInfo·name (message model f) in
+        let R : Walk → Type 0 = Grew w 0 (odds (valueNames model (c .main) f)) in
+        let e = odds-append (x .bytes ∷ []) (typed model c (message model f)) in
+        tells-bind (Adds w (odds (x .bytes ∷ []))) R Any (naming 22 w x) _ (naming-tells Any w x 22 tt tt) (λ t h.
+        tells-bind (Grew t 0 0) R Any (define full t x) _ (grew-define full t x) (λ v i.
+        tells-weaken (Adds v _) R Any Any (inMain c (declaredType model (message model f)) v) (λ u l. (omega arith, omega arith)) (λ r _. tt)
+        (grew-type model c (message model f) v)))
 
-    pub stays-default : (n : ℕ) (inputs : List Bytes) (w : Along) (x : Name) → Stays n (w .walk) → Tells (Stays n) Any (defaultOrNew full c inputs w x)
+    pub grew-output : (w : Walk) (f : Field) → Tells (Grew w 0 (odds (valueNames model (c .main) f))) Any (output model c w f)
+    unfolding output nameOf valueNames
+    grew-output w f =
+        let x = nameOf model ValueInfo·name (message model f) in
+        let R : Walk → Type 0 = Grew w 0 (odds (valueNames model (c .main) f)) in
+        let e = odds-append (x .bytes ∷ []) (typed model c (message model f)) in
+        tells-bind (Adds w (odds (x .bytes ∷ []))) R Any (naming 22 w x) _ (naming-tells Any w x 22 tt tt) (λ v h.
+        past R (refuse 35 at: _ when: _) _
+        (tells-weaken (Adds v _) R Any Any (inMain c (declaredType model (message model f)) v) (λ u l. (omega arith, omega arith)) (λ r _. tt)
+        (grew-type model c (message model f) v)))
+
+    pub grew-default : (inputs earlier : List Bytes) (w : Walk) (x : Name) → Tells (Grew w 0 0) Any (defaultOrNew full c inputs earlier w x)
     unfolding defaultOrNew
-    stays-default n inputs w x e = tells-if (Stays n) Any (isDefault c inputs (w .earlier) (x .bytes)) _ _ (λ b. e) (λ b. stays-define full n (w .walk) x e)
+    grew-default inputs earlier w x =
+        tells-if (Grew w 0 0) Any (isDefault c inputs earlier (x .bytes)) _ _ (λ b. (omega arith, omega arith)) (λ b. grew-define full w x)
 
-    stays-initializer : (n : ℕ) (inputs : List Bytes) (w : Along) (f : Field) → Stays n (w .walk) → Tells (λ v. Stays n (v .walk)) Any (initializer model full c inputs w f)
-    unfolding initializer
-    stays-initializer n inputs w f e = after (λ v. Stays n (v .walk)) (naming model 22 Tensor·name (message model f)) _ (λ x.
-        tells-bind (Stays n) (λ v. Stays n (v .walk)) Any (defaultOrNew full c inputs w x) _ (stays-default n inputs w x e)
-        (λ v q. past (λ v. Stays n (v .walk)) (refuse 26 at: _ when: _) _ q))
+    grew-initializer : (inputs : List Bytes) (w : Along) (f : Field)
+        → Tells (GrewIn along′ w 0 (odds (bytesOf model Tensor·name (message model f) ∷ []))) Any (initializer model full c inputs w f)
+    unfolding initializer nameOf
+    grew-initializer inputs w f =
+        let x = nameOf model Tensor·name (message model f) in
+        let R : Along → Type 0 = GrewIn along′ w 0 (odds (x .bytes ∷ [])) in
+        tells-bind (Adds (w .walk) (odds (x .bytes ∷ []))) R Any (naming 22 (w .walk) x) _ (naming-tells Any (w .walk) x 22 tt tt) (λ t h.
+        tells-bind (Grew t 0 0) R Any (defaultOrNew full c inputs (w .earlier) t x) _ (grew-default inputs (w .earlier) t x) (λ v i.
+        past R (refuse 26 at: _ when: _) _ (omega arith, omega arith)))
 
-    -- ---- one level: `J` counts the graphs further in as `k` lists their nodes
+    -- ---- one level: `J` counts the graphs further in as `k` lists their nodes and `l` their names
 
-    module _ (J : GraphJudge) (k : Field → List Field) (nest : (w : Walk) (f : Field) → Tells (Grows (λ (w : Walk). w .nodes) w (k f)) Any (J w f)) where
-      grows-body : (w : Walk) (f : Field) → Tells (Grows (λ (w : Walk). w .nodes) w (k f)) Any (body J w f)
+    module _ (J : GraphJudge) (k : Field → List Field) (l : Field → List Bytes)
+        (nest : (w : Walk) (f : Field) → Tells (Grew w (length (k f)) (odds (l f))) Any (J w f)) where
+      grew-body : (w : Walk) (f : Field) → Tells (Grew w (length (k f)) (odds (l f))) Any (body J w f)
       unfolding body leaving
-      grows-body w f = tells-bind (Grows (λ (w : Walk). w .nodes) w (k f)) (Grows (λ (w : Walk). w .nodes) w (k f)) Any (J w f) _ (nest w f) (λ v e. e)
+      grew-body w f = tells-bind (Grew w (length (k f)) (odds (l f))) (Grew w (length (k f)) (odds (l f))) Any (J w f) _ (nest w f) (λ v e. e)
 
-      grows-attribute : (w : Along) (f : Field) → Tells (Grows nodesOf w (flatMap k (bodiesOf (message model f)))) Any (attribute model J w f)
-      unfolding attribute
-      grows-attribute w f =
-          let R : Along → Type 0 = Grows nodesOf w (flatMap k (bodiesOf (message model f))) in
-          after R (naming model 22 Attribute·name (message model f)) _ (λ x.
+      grew-attribute : (w : Along) (f : Field)
+          → Tells (GrewIn along′ w (length (flatMap k (bodiesOf (message model f)))) (odds (attributeNames model l f))) Any (attribute model J w f)
+      unfolding attribute nameOf attributeNames
+      grew-attribute w f =
+          let x = nameOf model Attribute·name (message model f) in
+          let bodies = bodiesOf (message model f) in
+          let R : Along → Type 0 = GrewIn along′ w (length (flatMap k bodies)) (odds (attributeNames model l f)) in
+          let e = odds-append (x .bytes ∷ []) (flatMap l bodies) in
+          tells-bind (Adds (w .walk) (odds (x .bytes ∷ []))) R Any (naming 22 (w .walk) x) _ (naming-tells Any (w .walk) x 22 tt tt) (λ t h.
           past R (refuse 31 at: _ when: _) _ (past R (refuse 33 at: _ when: _) _ (past R (refuse 32 at: _ when: _) _
-          (tells-bind (Grows (λ (w : Walk). w .nodes) (w .walk) (flatMap k (bodiesOf (message model f)))) R Any (each (body J) (w .walk) (bodiesOf (message model f))) _
-          (grows-each (λ (w : Walk). w .nodes) k (body J) grows-body (bodiesOf (message model f)) (w .walk)) (λ v e. e)))))
+          (tells-bind (Grew t (length (flatMap k bodies)) (odds (flatMap l bodies))) R Any (each (body J) t bodies) _
+          (grew-each itself k l (body J) grew-body bodies t) (λ v i. (omega arith, omega arith))))))
 
-      grows-node : (w : Along) (f : Field) → Tells (Grows nodesOf w (f ∷ flatMap k (bodiesIn model f))) Any (node model full c J w f)
-      unfolding node withNode along bodiesIn
-      grows-node w f =
+      grew-node : (w : Along) (f : Field)
+          → Tells (GrewIn along′ w (length (f ∷ flatMap k (bodiesIn model f))) (odds (nodeNames model l f))) Any (node model full c J w f)
+      unfolding node withNode along bodiesIn nameOf nodeNames
+      grew-node w f =
           let m = message model f in
-          let R : Along → Type 0 = Grows nodesOf w (f ∷ flatMap k (bodiesIn model f)) in
+          let x = nameOf model Node·op-type m in
+          let name = bytesOf model Node·name m in
           let inner : List Field = flatMap (λ a. flatMap k (bodiesOf (message model a))) (allOf Node·attribute m) in
+          let inside : List Bytes = flatMap (attributeNames model l) (allOf Node·attribute m) in
+          let ins : List Bytes = flatMap (λ i. text model i ∷ []) (allOf Node·input m) in
+          let outs : List Bytes = flatMap (λ o. text model o ∷ []) (allOf Node·output m) in
+          let R : Along → Type 0 = GrewIn along′ w (length (f ∷ flatMap k (bodiesIn model f))) (odds (nodeNames model l f)) in
           let q : length (flatMap k (bodiesIn model f)) ≡ length inner =
           ap (λ (l : List Field). length l) (flat-flat k (λ a. bodiesOf (message model a)) (allOf Node·attribute m)) in
-          after R (naming model 27 Node·op-type m) _ (λ x.
+          let e : odds (nodeNames model l f) ≡ odds (x .bytes ∷ []) + (odds (name ∷ []) + odds ins) + odds inside + odds outs =
+          rw (map-flat (text model) (allOf Node·input m), map-flat (text model) (allOf Node·output m)) (
+          odds-append ((x .bytes ∷ name ∷ ins) ++ inside) outs
+          ∙ ap (λ (n : ℕ). n + odds outs) (odds-append (x .bytes ∷ name ∷ ins) inside
+          ∙ ap (λ (n : ℕ). n + odds inside) (odds-append (x .bytes ∷ []) (name ∷ ins)
+          ∙ ap (λ (n : ℕ). odds (x .bytes ∷ []) + n) (odds-append (name ∷ []) ins)))) in
+          tells-bind (Adds (w .walk) (odds (x .bytes ∷ []))) R Any (naming 27 (w .walk) x) _ (naming-tells Any (w .walk) x 27 tt tt) (λ t h.
           past R (refuse 28 at: _ when: _) _
-          (after R (nodeName model (w .earlier) m) _ (λ names.
-          past R (each (nodeInput model (w .walk .scope)) tt (allOf Node·input m)) _
-          (tells-bind (Grows nodesOf (along (w .walk)) inner) R Any (each (attribute model J) (along (w .walk)) (allOf Node·attribute m)) _
-          (grows-each nodesOf (λ a. flatMap k (bodiesOf (message model a))) (attribute model J) grows-attribute (allOf Node·attribute m) (along (w .walk)))
-          (λ a e. past R (refuse 34 at: _ when: _) _
-          (tells-bind (Stays (nodesOf a)) R Any (each (nodeOutput model full) (a .walk) (allOf Node·output m)) _
-          (tells-each Any (Stays (nodesOf a)) Any (nodeOutput model full) (λ v o s _. stays-output (nodesOf a) v o s) (allOf Node·output m)
-          (any-all (allOf Node·output m)) (a .walk) refl)
-          (λ v s. omega arith)))))))
+          (tells-bind (λ n. Adds t (odds (name ∷ [])) (n .walk)) R Any (nodeName model (w .earlier) t m) _
+          (grew-name model (w .earlier) t m) (λ n h₂.
+          tells-bind (Grew (n .walk) 0 (odds ins)) R Any (each (nodeInput model) (n .walk) (allOf Node·input m)) _
+          (names-each itself (λ i. text model i ∷ []) (nodeInput model) grew-node-input (allOf Node·input m) (n .walk)) (λ i h₃.
+          tells-bind (λ a. Grew i (length inner) (odds inside) (a .walk)) R Any (each (attribute model J) (along i) (allOf Node·attribute m)) _
+          (grew-each along′ (λ a. flatMap k (bodiesOf (message model a))) (attributeNames model l) (attribute model J) grew-attribute
+          (allOf Node·attribute m) (along i)) (λ a h₄.
+          past R (refuse 34 at: _ when: _) _
+          (tells-bind (Grew (a .walk) 0 (odds outs)) R Any (each (nodeOutput model full) (a .walk) (allOf Node·output m)) _
+          (names-each itself (λ o. text model o ∷ []) (nodeOutput model full) grew-node-output (allOf Node·output m) (a .walk))
+          (λ v h₅. (omega arith, omega arith))))))))
 
-      grows-graph : (w : Walk) (f : Field)
-          → Tells (Grows (λ (w : Walk). w .nodes) w (flatMap (λ n. n ∷ flatMap k (bodiesIn model n)) (allOf Graph·node (message model f)))) Any
-          (graphWith model full c J w f)
-      unfolding graphWith along
-      grows-graph w f =
+      grew-graph : (w : Walk) (f : Field)
+          → Tells (Grew w (length (flatMap (λ n. n ∷ flatMap k (bodiesIn model n)) (allOf Graph·node (message model f))))
+          (odds (graphNames model l (c .main) f))) Any (graphWith model full c J w f)
+      unfolding graphWith along nameOf graphNames
+      grew-graph w f =
           let g = message model f in
-          let l : List Field = flatMap (λ n. n ∷ flatMap k (bodiesIn model n)) (allOf Graph·node g) in
-          let R : Walk → Type 0 = Grows (λ (w : Walk). w .nodes) w l in
-          after R (naming model 20 Graph·name g) _ (λ x.
+          let x = nameOf model Graph·name g in
+          let nodes : List Field = flatMap (λ n. n ∷ flatMap k (bodiesIn model n)) (allOf Graph·node g) in
+          let ins : List Bytes = flatMap (valueNames model (c .main)) (allOf Graph·input g) in
+          let values : List Bytes = flatMap (λ t. bytesOf model Tensor·name (message model t) ∷ []) (allOf Graph·initializer g) in
+          let inside : List Bytes = flatMap (nodeNames model l) (allOf Graph·node g) in
+          let outs : List Bytes = flatMap (valueNames model (c .main)) (allOf Graph·output g) in
+          let R : Walk → Type 0 = Grew w (length nodes) (odds (graphNames model l (c .main) f)) in
+          let e : odds (graphNames model l (c .main) f) ≡ odds (x .bytes ∷ []) + odds ins + odds values + odds inside + odds outs =
+          rw (map-flat (λ t. bytesOf model Tensor·name (message model t))) (
+          odds-append ((x .bytes ∷ ins) ++ values ++ inside) outs
+          ∙ ap (λ (n : ℕ). n + odds outs) (odds-append ((x .bytes ∷ ins) ++ values) inside
+          ∙ ap (λ (n : ℕ). n + odds inside) (odds-append (x .bytes ∷ ins) values
+          ∙ ap (λ (n : ℕ). n + odds values) (odds-append (x .bytes ∷ []) ins)))) in
+          tells-bind (Adds w (odds (x .bytes ∷ []))) R Any (naming 20 w x) _ (naming-tells Any w x 20 tt tt) (λ t h.
           past R (refuse 16 at: _ when: _) _
-          (tells-bind (Stays (w .nodes)) R Any (each (input model full c) w (allOf Graph·input g)) _
-          (tells-each Any (Stays (w .nodes)) Any (input model full c) (λ v i s _. stays-input (w .nodes) v i s) (allOf Graph·input g) (any-all (allOf Graph·input g)) w refl)
-          (λ v s. tells-bind (λ i. Stays (w .nodes) (i .walk)) R Any (each (initializer model full c (inputsOf model g)) (along v) (allOf Graph·initializer g)) _
-          (tells-each Any (λ i. Stays (w .nodes) (i .walk)) Any (initializer model full c (inputsOf model g))
-          (λ i t s _. stays-initializer (w .nodes) (inputsOf model g) i t s) (allOf Graph·initializer g) (any-all (allOf Graph·initializer g))
-          (along v) s)
-          (λ i s. tells-bind (Grows nodesOf (along (i .walk)) l) R Any (each (node model full c J) (along (i .walk)) (allOf Graph·node g)) _
-          (grows-each nodesOf (λ n. n ∷ flatMap k (bodiesIn model n)) (node model full c J) grows-node (allOf Graph·node g) (along (i .walk)))
-          (λ n e. past R (each (output model c (n .walk .scope)) tt (allOf Graph·output g)) (pass (n .walk)) (omega arith))))))
+          (tells-bind (Grew t 0 (odds ins)) R Any (each (input model full c) t (allOf Graph·input g)) _
+          (names-each itself (valueNames model (c .main)) (input model full c) grew-input (allOf Graph·input g) t) (λ v h₂.
+          tells-bind (λ i. Grew v 0 (odds values) (i .walk)) R Any (each (initializer model full c (inputsOf model g)) (along v) (allOf Graph·initializer g)) _
+          (names-each along′ (λ t. bytesOf model Tensor·name (message model t) ∷ []) (initializer model full c (inputsOf model g))
+          (grew-initializer (inputsOf model g)) (allOf Graph·initializer g) (along v)) (λ i h₃.
+          tells-bind (λ n. Grew (i .walk) (length nodes) (odds inside) (n .walk)) R Any (each (node model full c J) (along (i .walk)) (allOf Graph·node g)) _
+          (grew-each along′ (λ n. n ∷ flatMap k (bodiesIn model n)) (nodeNames model l) (node model full c J) grew-node (allOf Graph·node g)
+          (along (i .walk))) (λ n h₄.
+          tells-weaken (Grew (n .walk) 0 (odds outs)) R Any Any (each (output model c) (n .walk) (allOf Graph·output g))
+          (λ u h₅. (omega arith, omega arith)) (λ r _. tt)
+          (names-each itself (valueNames model (c .main)) (output model c) grew-output (allOf Graph·output g) (n .walk)))))))
 
--- the plain count has as many depths as the judge, or more
-pub grows-depths : (model : Bytes) (full : ℕ → Bool) (left more : ℕ) (c : Context) (w : Walk) (f : Field)
-    → Tells (Grows (λ (w : Walk). w .nodes) w (nodesIn model (more + left) f)) Any (graph model full left c w f)
-unfolding graph nodesIn
-grows-depths model full zero more c w f = tt
-grows-depths model full (suc left) more c w f = rw add-suc
-    (grows-graph model full c (graph model full left (nestedIn c)) (nodesIn model (more + left)) (λ w f. grows-depths model full left more (nestedIn c) w f) w f)
+-- the plain counts have as many depths as the judge, or more
+pub grew-depths : (model : Bytes) (full : ℕ → Bool) (left more : ℕ) (c : Context) (w : Walk) (f : Field)
+    → Tells (Grew w (length (nodesIn model (more + left) f)) (odds (namesIn model (more + left) (c .main) f))) Any (graph model full left c w f)
+unfolding graph nodesIn namesIn nestedIn
+grew-depths model full zero more c w f = tt
+grew-depths model full (suc left) more c w f = rw add-suc
+    (grew-graph model full c (graph model full left (nestedIn c)) (nodesIn model (more + left)) (namesIn model (more + left) false)
+    (λ w f. grew-depths model full left more (nestedIn c) w f) w f)
 
 -- ---- the whole second walk
 
-pub second-counts : (model list : Bytes) (full : ℕ → Bool) → Tells (λ w. w .nodes ≡ nodeCount model) Any (secondWalk model list full)
-unfolding secondWalk secondWalkTo nodesTo start
-second-counts model list full = rw (← (nodes-bound model (length model + 8) (omega arith)))
-    (after (λ w. w .nodes ≡ nodesTo model (length model + 8)) (header model list (message model (whole model))) _
-    (λ imports. go (record { imports = imports; main = true }) (firstOf Model·graph (message model (whole model)))))
+-- both counts are the plain ones
+abbrev pub Plain : Bytes → Walk → Type 0
+Plain model w = (w .nodes ≡ nodeCount model) × (w .odd ≡ oddIn model)
+
+pub second-counts : (model list : Bytes) (full : ℕ → Bool) → Tells (Plain model) Any (secondWalk model list full)
+unfolding secondWalk secondWalkTo nodesTo oddTo start
+second-counts model list full =
+    let R : Walk → Type 0 = λ w. (w .nodes ≡ nodesTo model (length model + 8)) × (w .odd ≡ oddTo model (length model + 8)) in
+    tells-weaken R (Plain model) Any Any (secondWalk model list full)
+    (λ w e. (e .0 ∙ nodes-bound model (length model + 8) (omega arith), e .1 ∙ odd-bound model (length model + 8) (omega arith))) (λ r _. tt)
+    (after R (header model list (message model (whole model))) _
+    (λ imports. go (record { imports = imports; main = true }) refl (firstOf Model·graph (message model (whole model)))))
   where
-    count : Option Field → ℕ
-    count o = elim o [ none ↦ 0 | some g ↦ length (nodesIn model (length model + 8) g) ]
+    nodes : Option Field → ℕ
+    nodes o = elim o [ none ↦ 0 | some g ↦ length (nodesIn model (length model + 8) g) ]
+
+    names : Option Field → ℕ
+    names o = elim o [ none ↦ 0 | some g ↦ odds (namesIn model (length model + 8) true g) ]
 
     walked : Context → Option Field → Judged Walk
     walked c o = elim o [ none ↦ refused 11 (message model (whole model) .place) | some g ↦ graph model full 8 c start g ]
 
-    go : (c : Context) (o : Option Field) → Tells (λ w. w .nodes ≡ count o) Any (walked c o)
-    go c none = tt
-    go c (some g) =
-        tells-weaken (Grows (λ (w : Walk). w .nodes) start (nodesIn model (length model + 8) g)) (λ w. w .nodes ≡ count (some g)) Any Any
-        (graph model full 8 c start g) (λ w e. omega arith) (λ r _. tt) (grows-depths model full 8 (length model) c start g)
+    go : (c : Context) → c .main ≡ true → (o : Option Field) → Tells (λ w. (w .nodes ≡ nodes o) × (w .odd ≡ names o)) Any (walked c o)
+    go c m none = tt
+    go c m (some g) =
+        let q : odds (namesIn model (length model + 8) (c .main) g) ≡ names (some g) = ap (λ (b : Bool). odds (namesIn model (length model + 8) b g)) m in
+        tells-weaken (Grew start (length (nodesIn model (length model + 8) g)) (odds (namesIn model (length model + 8) (c .main) g)))
+        (λ w. (w .nodes ≡ nodes (some g)) × (w .odd ≡ names (some g))) Any Any
+        (graph model full 8 c start g) (λ w e. (omega arith, omega arith)) (λ r _. tt) (grew-depths model full 8 (length model) c start g)

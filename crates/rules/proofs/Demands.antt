@@ -26,16 +26,15 @@ use Rattle.rules.specs.Graph.{graph}
 use Rattle.rules.specs.Header.{header, secondWalkTo, secondWalk}
 use Rattle.rules.specs.Verdict.{LARGEST, Counts, counts, fills, verdict}
 use Rattle.rules.specs.Runner.{Run, begin, runGraph, runTo, run}
-use Rattle.rules.specs.Count.{nodeCount}
 use Rattle.rules.specs.Demands.{Faithful, Demand3, CountsTrue, BoundsNeverDecide}
 use Rattle.rules.proofs.Rules.{Header·refusals, header-tells}
 use Rattle.rules.proofs.Matching.{Matches, Quiet, quiet-among, quiet-rule, quiet-matches, quiet-then, after-matches}
 use Rattle.rules.proofs.Lockstep.{InStep, depths-match}
 use Rattle.rules.proofs.Choices.{Follows, Sub, follows-run}
 use Rattle.rules.proofs.Traces.{functional}
-use Rattle.rules.proofs.Bounds.{run-bound, nodes-bound}
+use Rattle.rules.proofs.Bounds.{run-bound, nodes-bound, odd-bound}
 use Rattle.rules.proofs.Depth.{second-bound}
-use Rattle.rules.proofs.Counting.{second-counts}
+use Rattle.rules.proofs.Counting.{Plain, second-counts}
 
 pub boundsNeverDecide : BoundsNeverDecide
 boundsNeverDecide = record {
@@ -45,6 +44,7 @@ boundsNeverDecide = record {
   of-second-walk = second-bound;
   of-run = run-bound;
   of-nodes = nodes-bound;
+  of-odd = odd-bound;
 }
 
 -- ---- the whole judge beside the run that enters every body once
@@ -125,7 +125,5 @@ countsTrue model list cells c e =
     let d = passed-seq (firstWalk model) _ c (b .1) in
     let w = passed-bind (secondWalk model list (fills cells)) (λ w. pass (counts w)) c (d .1) in
     let q : counts (w .0) ≡ c = pass-same (counts (w .0)) c (w .2) in
-    let n : w .0 .nodes ≡ nodeCount model =
-    passed-tells (λ w. w .nodes ≡ nodeCount model) Any (secondWalk model list (fills cells)) (w .0) (second-counts model list (fills cells))
-    (w .1) in
-    (ap (λ (k : Counts). k .nodes) (sym q) ∙ n, plain model list cells c e)
+    let n = passed-tells (Plain model) Any (secondWalk model list (fills cells)) (w .0) (second-counts model list (fills cells)) (w .1) in
+    (ap (λ (k : Counts). k .nodes) (sym q) ∙ n .0, plain model list cells c e, ap (λ (k : Counts). k .odd) (sym q) ∙ n .1)

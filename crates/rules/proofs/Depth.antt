@@ -21,7 +21,7 @@ use Rattle.schema.specs.Numbers.{Model·graph, Graph·node, Node·attribute, At
 use Rattle.schema.specs.FirstWalk.{kindOf, deeper, walked, firstWalk}
 use Rattle.schema.proofs.Opened.{Sound, Opens, walked-opens, graph-node, node-attribute, attribute-body}
 use Rattle.rules.specs.Names.{bodiesOf}
-use Rattle.rules.specs.Walk.{Context, nestedIn, Walk, start, leaving, Along, along}
+use Rattle.rules.specs.Walk.{Context, nestedIn, Walk, start, leaving, Along}
 use Rattle.rules.specs.Node.{body, attribute, node}
 use Rattle.rules.specs.Graph.{graphWith, graph}
 use Rattle.rules.specs.Header.{header, secondWalkTo, secondWalk}
@@ -72,14 +72,14 @@ module _ (model : Bytes) where
 
     attribute-agrees : (w : Along) (a : Field) → All Q (bodiesOf (message model a)) → attribute model J w a ≡ attribute model K w a
     unfolding attribute
-    attribute-agrees w a q = rw (each-agree Q (body J) (body K) body-agrees (bodiesOf (message model a)) q (w .walk)) refl
+    attribute-agrees w a q = simp (each-agree Q (body J) (body K) body-agrees (bodiesOf (message model a)) q) refl
 
     node-agrees : (w : Along) (n : Field) → All (λ a. All Q (bodiesOf (message model a))) (allOf Node·attribute (message model n))
         → node model full c J w n ≡ node model full c K w n
     unfolding node
     node-agrees w n q =
-        rw (each-agree (λ a. All Q (bodiesOf (message model a))) (attribute model J) (attribute model K) attribute-agrees
-        (allOf Node·attribute (message model n)) q (along (w .walk))) refl
+        simp (each-agree (λ a. All Q (bodiesOf (message model a))) (attribute model J) (attribute model K) attribute-agrees
+        (allOf Node·attribute (message model n)) q) refl
 
     graph-agrees : (w : Walk) (f : Field)
         → All (λ n. All (λ a. All Q (bodiesOf (message model a))) (allOf Node·attribute (message model n))) (allOf Graph·node (message model f))

@@ -1,4 +1,6 @@
 pub mod IdentifierLaws
+pub mod Utf8Laws
+pub mod SpellingLaws
 pub mod Rules
 pub mod Size
 pub mod Matching
@@ -18,3 +20,4 @@ pub mod Limit
 pub mod Shared
 pub mod Encoding
 pub mod Demands
+pub mod NamesFew

@@ -13,18 +13,20 @@ use Rattle.varint.specs.Bytes.{Bytes, same, member}
 use Rattle.wire.specs.Message.{Message, allOf, numberOf, placeOf, text, bytesOf, message}
 use Rattle.varint.proofs.Tells.{Any, any-all}
 use Rattle.schema.specs.Numbers.{Graph·name, Graph·node, Graph·initializer, Graph·input, Graph·output, Node·input, Node·output}
-use Rattle.schema.specs.Numbers.{Node·op-type, Node·attribute, Attribute·name, Tensor·name, Tensor·data-type, ValueInfo·name}
-use Rattle.rules.specs.Identifier.{identifier}
+use Rattle.schema.specs.Numbers.{Node·name, Node·op-type, Node·attribute, Attribute·name, Tensor·name, Tensor·data-type, ValueInfo·name}
+use Rattle.rules.specs.Utf8.{wellFormed}
 use Rattle.rules.specs.Names.{Name, nameOf, nameIn, bodiesOf, inputsOf, bodiesIn}
-use Rattle.rules.specs.Walk.{Context, nestedIn, inMain, Walk, withName, withNode, leaving, Along, along, visible, definedAt, naming, define}
+use Rattle.rules.specs.Walk.{Context, nestedIn, inMain, Walk, withName, withNode, withTested, leaving, Along, along}
+use Rattle.rules.specs.Walk.{visible, definedAt, tested, naming, define}
 use Rattle.rules.specs.Types.{isElement, declaredType}
 use Rattle.rules.specs.Node.{nodeName, nodeInput, nodeOutput, body, attribute, node}
 use Rattle.rules.specs.Graph.{input, isDefault, defaultOrNew, initializer, output, graphWith, graph}
 use Rattle.rules.specs.Runner.{binds, reads, visits, unlessEmpty, initializers, nodeScript, script, reading, Run, Ran}
 use Rattle.rules.specs.Runner.{find, withBound, withRead, bind, read, unchosen, choose, forget, perform, runGraph}
-use Rattle.rules.proofs.Rules.{Type·refusals, main-type-tells, nodeName-tells}
-use Rattle.rules.proofs.Matching.{stopOf, Matches, Quiet, quiet-among, quiet-rule, bind-matches, after-matches, seq-matches, then-pass}
-use Rattle.rules.proofs.Matching.{then-quiet, quiet-matches, quiet-then, each-matches, bind-assoc, bind-pass, each-append, each-map, each-flat}
+use Rattle.rules.specs.Count.{odds}
+use Rattle.rules.proofs.Rules.{Adds, Type·refusals, inType, main-type-tells, nodeName-tells}
+use Rattle.rules.proofs.Matching.{stopOf, Matches, Quiet, told-among, quiet-rule, bind-matches, after-matches, then-matches}
+use Rattle.rules.proofs.Matching.{told-matches, told-passes, quiet-then, each-matches, bind-assoc, bind-pass, each-append, each-map, each-flat}
 use Rattle.rules.proofs.Visits.{visit-once}
 use Rattle.rules.proofs.Defaults.{Agree, agree-first, agree-default, agree-new}
 
@@ -34,6 +36,10 @@ InStep w r = (w .scope ≡ r .bound) × (r .choices ≡ []) × (w .most ≡ r .m
 
 abbrev InStepAlong : Along → Run → Type 0
 InStepAlong w r = InStep (w .walk) r
+
+-- odd names are no concern of the runner
+in-step-adds : (w v : Walk) (k : ℕ) (r : Run) → InStep w r → Adds w k v → InStep v r
+in-step-adds w v k r h a = (a .0 ∙ h .0, h .1, a .2 ∙ h .2)
 
 visible-found : (x : Bytes) (l : List Name) → visible x l ≡ present (find x l)
 unfolding visible find present
@@ -83,72 +89,85 @@ read-matches n w x r q h = go (find (x .bytes) (r .bound)) refl
     go none e = rw (found-in-step w x r none h e, e, read) (rw (q (x .place)) refl)
     go (some p) e = rw (found-in-step w x r (some p) h e, e, read) (withRead r (x .place) p, refl, h)
 
-module _ (model : Bytes) where
-  naming-matches : {C D : Type 0} (S : C → D → Type 0) (empty k : ℕ) (m : Message) (f : Name → Judged C) (o : Outcome _ D)
-      → ((p : ℕ) → stopOf (record { number = empty; place = p; first = 0 }) ≡ none) → Matches S (f (nameOf model k m)) o
-      → Matches S (naming model empty k m >>= f) o
-  unfolding naming _>>=_ _>>_ refuse_at:_when:_
-  naming-matches S empty k m f o q h = go (isEmpty (bytesOf model k m)) (not (identifier (bytesOf model k m)))
+module _ {C D : Type 0} (S : C → D → Type 0) (w : Walk) (x : Name) (f : Walk → Judged C) (o : Outcome _ D) where
+  tested-matches : Matches S (f (withTested w x)) o → Matches S (tested w x >>= f) o
+  unfolding tested _>>=_ _>>_ refuse_at:_when:_
+  tested-matches h = go (not (wellFormed (x .bytes)))
     where
-      go : (a b : Bool) → Matches S ((refuse empty at: placeOf k m when: a >> (refuse 21 at: placeOf k m when: b >> pass (nameOf model k m))) >>= f) o
-      go true b = rw (q (placeOf k m)) tt
-      go false true = tt
-      go false false = h
+      go : (b : Bool) → Matches S (refuse 21 at: x .place when: b >> pass (withTested w x) >>= f) o
+      go true = tt
+      go false = h
 
-  quiet-type : (c : Context) (v : Message) → Quiet (inMain c (declaredType model v))
-  unfolding contains
-  quiet-type c v =
-      quiet-among Any Any Type·refusals (inMain c (declaredType model v)) (tt, tt, tt)
-      (main-type-tells model Any Any (λ f g. tt) (λ f g. any-all (message model f .fields)) c v (tt, any-all (v .fields)))
+  naming-matches : (empty : ℕ) → ((p : ℕ) → stopOf (record { number = empty; place = p; first = 0 }) ≡ none)
+      → Matches S (f (withTested w x)) o → Matches S (naming empty w x >>= f) o
+  unfolding naming _>>=_ _>>_ refuse_at:_when:_
+  naming-matches empty q h = go (isEmpty (x .bytes))
+    where
+      go : (a : Bool) → Matches S (refuse empty at: x .place when: a >> tested w x >>= f) o
+      go true = rw (q (x .place)) tt
+      go false = tested-matches h
 
-  quiet-nodeName : (earlier : List Bytes) (m : Message) → Quiet (nodeName model earlier m)
+module _ (model : Bytes) where
+  type-matches : (c : Context) (v : Message) (w : Walk) (r : Run) → InStep w r → Matches InStep (inMain c (declaredType model v) w) (pass r)
   unfolding contains
-  quiet-nodeName earlier m =
-      quiet-among Any Any (21 ∷ 29 ∷ []) (nodeName model earlier m) (tt, tt, tt)
-      (nodeName-tells model Any Any (λ f g. tt) (λ f g. any-all (message model f .fields)) earlier m (tt, any-all (m .fields)))
+  type-matches c v w r h =
+      let k = odds (inType model Any Any (λ f g. tt) (λ f g. any-all (message model f .fields)) c v) in
+      told-passes (Adds w k) InStep (inMain c (declaredType model v) w) r
+      (told-among (Adds w k) Any Type·refusals (inMain c (declaredType model v) w) (tt, tt, tt)
+      (main-type-tells model Any Any (λ f g. tt) (λ f g. any-all (message model f .fields)) c v w (tt, any-all (v .fields))))
+      (λ u a. in-step-adds w u k r h a)
+
+  nodeName-matches : {D : Type 0} (S : Along → D → Type 0) (earlier : List Bytes) (w : Walk) (m : Message) (f : Along → Judged Along) (o : Outcome _ D)
+      → ((n : Along) → Adds w (odds (bytesOf model Node·name m ∷ [])) (n .walk) → Matches S (f n) o)
+      → Matches S (nodeName model earlier w m >>= f) o
+  unfolding contains
+  nodeName-matches S earlier w m f o h =
+      let R : Along → Type 0 = λ n. Adds w (odds (bytesOf model Node·name m ∷ [])) (n .walk) in
+      told-matches R S (nodeName model earlier w m) f o
+      (told-among R Any (21 ∷ 29 ∷ []) (nodeName model earlier w m) (tt, tt, tt)
+      (nodeName-tells model Any Any (λ f g. tt) (λ f g. any-all (message model f .fields)) earlier w m (tt, any-all (m .fields)))) h
 
 -- ---- one level: `J` judges and `K` runs the graphs further in
 
 module _ (model : Bytes) (full : ℕ → Bool) (c : Context) (J : Walk → Field → Judged Walk) (K : Run → Field → Ran)
     (nest : (w : Walk) (r : Run) (f : Field) → InStep w r → Matches InStep (J w f) (K r f)) where
   input-matches : (w : Walk) (r : Run) (f : Field) → InStep w r → Matches InStep (input model full c w f) (perform K r (binds (nameOf model ValueInfo·name (message model f))))
-  unfolding input perform
+  unfolding input perform withTested
   input-matches w r f h =
-      naming-matches model InStep 22 ValueInfo·name (message model f) _ _ (λ p. refl)
-      (after-matches InStep InStep (define full w (nameOf model ValueInfo·name (message model f)))
-      (bind r (nameOf model ValueInfo·name (message model f))) _ (define-matches full w _ r h)
-      (λ v s k. quiet-then InStep (inMain c (declaredType model (message model f))) (pass v) (pass s) (quiet-type model c _) (s, refl, k)))
+      let x = nameOf model ValueInfo·name (message model f) in
+      naming-matches InStep w x _ _ 22 (λ p. refl)
+      (after-matches InStep InStep (define full (withTested w x) x) (bind r x) _ (define-matches full (withTested w x) x r h)
+      (λ v s k. type-matches model c (message model f) v s k))
 
-  node-input : (w : Walk) (u : Unit {0}) (r : Run) (f : Field) → InStep w r
-      → Matches (λ _ s. InStep w s) (nodeInput model (w .scope) u f) (each (perform K) r (unlessEmpty reads (nameIn model f)))
-  unfolding nodeInput unlessEmpty nameIn isEmpty perform each
-  node-input w u r f h = go (text model f) refl
+  node-input : (w : Walk) (r : Run) (f : Field) → InStep w r → Matches InStep (nodeInput model w f) (each (perform K) r (unlessEmpty reads (nameIn model f)))
+  unfolding nodeInput unlessEmpty nameIn isEmpty perform each withTested
+  node-input w r f h = go (text model f) refl
     where
-      go : (t : Bytes) → text model f ≡ t → Matches (λ _ s. InStep w s) (nodeInput model (w .scope) u f) (each (perform K) r (unlessEmpty reads (nameIn model f)))
+      go : (t : Bytes) → text model f ≡ t → Matches InStep (nodeInput model w f) (each (perform K) r (unlessEmpty reads (nameIn model f)))
       go [] e = rw (e, nodeInput, unlessEmpty) (r, refl, h)
       go (b ∷ t) e = rw (e, nodeInput, unlessEmpty, bind-pass)
-          (quiet-then (λ _ s. InStep w s) (refuse 21 at: f .place when: not (identifier (text model f)))
-          (refuse 30 at: f .place when: not (visible (text model f) (w .scope))) (read r (nameIn model f))
-          (quiet-rule 21 (f .place) (not (identifier (text model f))) refl) (read-matches 30 w (nameIn model f) r (λ p. refl) h))
+          (tested-matches InStep w (nameIn model f) _ _
+          (then-matches (InStep (withTested w (nameIn model f))) InStep (refuse 30 at: f .place when: not (visible (text model f) (w .scope)))
+          (pass (withTested w (nameIn model f))) (read r (nameIn model f))
+          (read-matches 30 (withTested w (nameIn model f)) (nameIn model f) r (λ p. refl) h) (λ s k. (s, refl, k))))
 
   node-output : (w : Walk) (r : Run) (f : Field) → InStep w r → Matches InStep (nodeOutput model full w f) (each (perform K) r (unlessEmpty binds (nameIn model f)))
-  unfolding nodeOutput unlessEmpty nameIn isEmpty perform each
+  unfolding nodeOutput unlessEmpty nameIn isEmpty perform each withTested
   node-output w r f h = go (text model f) refl
     where
       go : (t : Bytes) → text model f ≡ t → Matches InStep (nodeOutput model full w f) (each (perform K) r (unlessEmpty binds (nameIn model f)))
       go [] e = rw (e, nodeOutput, unlessEmpty) (r, refl, h)
       go (b ∷ t) e = rw (e, nodeOutput, unlessEmpty, bind-pass)
-          (quiet-then InStep (refuse 21 at: f .place when: not (identifier (text model f))) (define full w (nameIn model f)) (bind r (nameIn model f))
-          (quiet-rule 21 (f .place) (not (identifier (text model f))) refl) (define-matches full w (nameIn model f) r h))
+          (tested-matches InStep w (nameIn model f) _ _ (define-matches full (withTested w (nameIn model f)) (nameIn model f) r h))
 
-  output-matches : (w : Walk) (u : Unit {0}) (r : Run) (f : Field) → InStep w r
-      → Matches (λ _ s. InStep w s) (output model c (w .scope) u f) (perform K r (reads (nameOf model ValueInfo·name (message model f))))
-  unfolding output perform
-  output-matches w u r f h =
+  output-matches : (w : Walk) (r : Run) (f : Field) → InStep w r
+      → Matches InStep (output model c w f) (perform K r (reads (nameOf model ValueInfo·name (message model f))))
+  unfolding output perform withTested
+  output-matches w r f h =
       let x = nameOf model ValueInfo·name (message model f) in
-      naming-matches model (λ _ s. InStep w s) 22 ValueInfo·name (message model f) _ _ (λ p. refl)
-      (then-quiet (InStep w) (refuse 35 at: x .place when: not (visible (x .bytes) (w .scope))) (inMain c (declaredType model (message model f))) (read r x)
-      (read-matches 35 w x r (λ p. refl) h) (quiet-type model c (message model f)))
+      naming-matches InStep w x _ _ 22 (λ p. refl)
+      (then-matches (InStep (withTested w x)) InStep (refuse 35 at: x .place when: not (visible (x .bytes) (w .scope))) _ (read r x)
+      (read-matches 35 (withTested w x) x r (λ p. refl) h) (λ s k. type-matches model c (message model f) (withTested w x) s k))
 
   -- names of a body are forgotten as they vanish
   body-matches : (w : Walk) (r : Run) (f : Field) → InStep w r → Matches InStep (body J w f) (perform K r (visits f))
@@ -159,14 +178,15 @@ module _ (model : Bytes) (full : ℕ → Bool) (c : Context) (J : Walk → Field
 
   attribute-matches : (w : Along) (r : Run) (f : Field) → InStepAlong w r
       → Matches InStepAlong (attribute model J w f) (each (λ s b. perform K s (visits b)) r (bodiesOf (message model f)))
-  unfolding attribute
+  unfolding attribute withTested
   attribute-matches w r f h =
-      naming-matches model InStepAlong 22 Attribute·name (message model f) _ _ (λ p. refl)
+      let t = withTested (w .walk) (nameOf model Attribute·name (message model f)) in
+      naming-matches InStepAlong (w .walk) (nameOf model Attribute·name (message model f)) _ _ 22 (λ p. refl)
       (quiet-then InStepAlong (refuse 31 at: _ when: _) _ _ (quiet-rule 31 _ _ refl)
       (quiet-then InStepAlong (refuse 33 at: _ when: _) _ _ (quiet-rule 33 _ _ refl)
       (quiet-then InStepAlong (refuse 32 at: _ when: _) _ _ (quiet-rule 32 _ _ refl)
-      (after-matches InStep InStepAlong (each (body J) (w .walk) (bodiesOf (message model f))) _ _
-      (each-matches InStep (body J) (λ s b. perform K s (visits b)) (λ v s b k. body-matches v s b k) (bodiesOf (message model f)) (w .walk) r h)
+      (after-matches InStep InStepAlong (each (body J) t (bodiesOf (message model f))) _ _
+      (each-matches InStep (body J) (λ s b. perform K s (visits b)) (λ v s b k. body-matches v s b k) (bodiesOf (message model f)) t r h)
       (λ v s k. (s, refl, k))))))
 
   node-script : (r : Run) (f : Field) → each (perform K) r (nodeScript model f) ≡ (
@@ -177,18 +197,19 @@ module _ (model : Bytes) (full : ℕ → Bool) (c : Context) (J : Walk → Field
   node-script r f = simp (each-append, each-map, each-flat, bind-assoc)
 
   node-matches : (w : Along) (r : Run) (f : Field) → InStepAlong w r → Matches InStepAlong (node model full c J w f) (each (perform K) r (nodeScript model f))
-  unfolding node withNode along
+  unfolding node withNode withTested along
   node-matches w r f h = rw node-script
       (let m = message model f in
-      naming-matches model InStepAlong 27 Node·op-type m _ _ (λ p. refl)
+      let t = withTested (w .walk) (nameOf model Node·op-type m) in
+      naming-matches InStepAlong (w .walk) (nameOf model Node·op-type m) _ _ 27 (λ p. refl)
       (quiet-then InStepAlong (refuse 28 at: _ when: _) _ _ (quiet-rule 28 _ _ refl)
-      (quiet-matches InStepAlong (nodeName model (w .earlier) m) _ _ (quiet-nodeName model (w .earlier) m) (λ names.
-      seq-matches (InStep (w .walk)) InStepAlong (each (nodeInput model (w .walk .scope)) tt (allOf Node·input m)) _ _ _
-      (each-matches (λ _ s. InStep (w .walk) s) (nodeInput model (w .walk .scope)) (λ s i. each (perform K) s (unlessEmpty reads (nameIn model i)))
-      (λ u s i k. node-input (w .walk) u s i k) (allOf Node·input m) tt r h)
-      (λ s k. bind-matches InStepAlong InStepAlong (each (attribute model J) (along (w .walk)) (allOf Node·attribute m)) _ _ _
+      (nodeName-matches model InStepAlong (w .earlier) t m _ _ (λ n a.
+      bind-matches InStep InStepAlong (each (nodeInput model) (n .walk) (allOf Node·input m)) _ _ _
+      (each-matches InStep (nodeInput model) (λ s i. each (perform K) s (unlessEmpty reads (nameIn model i)))
+      (λ v s i k. node-input v s i k) (allOf Node·input m) (n .walk) r (in-step-adds t (n .walk) _ r h a))
+      (λ i s k. bind-matches InStepAlong InStepAlong (each (attribute model J) (along i) (allOf Node·attribute m)) _ _ _
       (each-matches InStepAlong (attribute model J) (λ s a. each (λ s b. perform K s (visits b)) s (bodiesOf (message model a)))
-      (λ v s a k. attribute-matches v s a k) (allOf Node·attribute m) (along (w .walk)) s k)
+      (λ v s a k. attribute-matches v s a k) (allOf Node·attribute m) (along i) s k)
       (λ v t k. quiet-then InStepAlong (refuse 34 at: _ when: _) _ _ (quiet-rule 34 _ _ refl)
       (after-matches InStep InStepAlong (each (nodeOutput model full) (v .walk) (allOf Node·output m)) _ _
       (each-matches InStep (nodeOutput model full) (λ s o. each (perform K) s (unlessEmpty binds (nameIn model o))) (λ v s o k. node-output v s o k)
@@ -213,15 +234,18 @@ module _ (model : Bytes) (full : ℕ → Bool) (c : Context) (J : Walk → Field
     initializers-match : (fs : List Field) (w : Along) (waiting : List Bytes) (r : Run)
         → InStepAlong w r → Agree c inputs (w .earlier) waiting
         → Matches InStepAlong (each (initializer model full c inputs) w fs) (each (perform K) r (initializers model waiting fs))
-    unfolding each initializer initializers type-test defaultOrNew perform _>>=_
+    unfolding each initializer initializers type-test defaultOrNew perform withTested _>>=_
     initializers-match [] w waiting r h a = (r, refl, h)
     initializers-match (f ∷ more) w waiting r h a =
-        rw (bind-assoc (naming model 22 Tensor·name (message model f)))
-        (naming-matches model InStepAlong 22 Tensor·name (message model f) _ _ (λ p. refl)
+        rw (bind-assoc (naming 22 (w .walk) x))
+        (naming-matches InStepAlong (w .walk) x _ _ 22 (λ p. refl)
         (go (isDefault c inputs (w .earlier) (x .bytes)) (member (x .bytes) waiting) refl (a (x .bytes)) (λ v waiting s h a. initializers-match more v waiting s h a)))
       where
         x : Name
         x = nameOf model Tensor·name (message model f)
+
+        t : Walk
+        t = withTested (w .walk) x
 
         with-x : Walk → Along
         with-x v = record { walk = v; earlier = x .bytes ∷ w .earlier }
@@ -229,13 +253,13 @@ module _ (model : Bytes) (full : ℕ → Bool) (c : Context) (J : Walk → Field
         go : (b m : Bool) → isDefault c inputs (w .earlier) (x .bytes) ≡ b → m ≡ b
             → ((v : Along) (waiting : List Bytes) (s : Run) → InStepAlong v s → Agree c inputs (v .earlier) waiting
             → Matches InStepAlong (each (initializer model full c inputs) v more) (each (perform K) s (initializers model waiting more)))
-            → Matches InStepAlong ((elim b as (λ _. Judged Walk) [ true ↦ pass (w .walk) | false ↦ define full (w .walk) x ])
+            → Matches InStepAlong ((elim b as (λ _. Judged Walk) [ true ↦ pass t | false ↦ define full t x ])
             >>= (λ v. type-test f >> pass (with-x v)) >>= λ v. each (initializer model full c inputs) v more)
             (each (perform K) r (elim m [ true ↦ initializers model (keep (λ y. not (same (x .bytes) y)) waiting) more | false ↦ binds x ∷ initializers model waiting more ]))
-        go true true e q ih = last-matches (with-x (w .walk)) f _ _ (ih (with-x (w .walk)) _ r h (agree-default c inputs (w .earlier) waiting (x .bytes) a))
+        go true true e q ih = last-matches (with-x t) f _ _ (ih (with-x t) _ r h (agree-default c inputs (w .earlier) waiting (x .bytes) a))
         go false false e q ih =
-            rw (bind-assoc (define full (w .walk) x))
-            (bind-matches InStep InStepAlong (define full (w .walk) x) (bind r x) _ _ (define-matches full (w .walk) x r h)
+            rw (bind-assoc (define full t x))
+            (bind-matches InStep InStepAlong (define full t x) (bind r x) _ _ (define-matches full t x r h)
             (λ v s k. last-matches (with-x v) f _ _ (ih (with-x v) waiting s k (agree-new c inputs (w .earlier) waiting (x .bytes) e a))))
         go true false e q ih = absurd (true≢false (sym q))
         go false true e q ih = absurd (true≢false q)
@@ -251,22 +275,21 @@ module _ (model : Bytes) (full : ℕ → Bool) (c : Context) (J : Walk → Field
   graph-script r f = simp (each-append, each-flat, each-map, bind-assoc)
 
   graph-matches : (w : Walk) (r : Run) (f : Field) → InStep w r → Matches InStep (graphWith model full c J w f) (each (perform K) r (script model (c .main) f))
-  unfolding graphWith along
+  unfolding graphWith withTested along
   graph-matches w r f h = rw graph-script
       (let g = message model f in
-      naming-matches model InStep 20 Graph·name g _ _ (λ p. refl)
+      let t = withTested w (nameOf model Graph·name g) in
+      naming-matches InStep w (nameOf model Graph·name g) _ _ 20 (λ p. refl)
       (quiet-then InStep (refuse 16 at: _ when: _) _ _ (quiet-rule 16 _ _ refl)
-      (bind-matches InStep InStep (each (input model full c) w (allOf Graph·input g)) _ _ _
+      (bind-matches InStep InStep (each (input model full c) t (allOf Graph·input g)) _ _ _
       (each-matches InStep (input model full c) (λ s i. perform K s (binds (nameOf model ValueInfo·name (message model i))))
-      (λ v s i k. input-matches v s i k) (allOf Graph·input g) w r h)
+      (λ v s i k. input-matches v s i k) (allOf Graph·input g) t r h)
       (λ v s k. bind-matches InStepAlong InStep (each (initializer model full c (inputsOf model g)) (along v) (allOf Graph·initializer g)) _ _ _
       (initializers-match (inputsOf model g) (allOf Graph·initializer g) (along v) _ s k (agree-first c (inputsOf model g)))
       (λ i t k. bind-matches InStepAlong InStep (each (node model full c J) (along (i .walk)) (allOf Graph·node g)) _ _ _
       (each-matches InStepAlong (node model full c J) (λ s n. each (perform K) s (nodeScript model n)) (λ v s n k. node-matches v s n k) (allOf Graph·node g) (along (i .walk)) t k)
-      (λ n u k. then-pass (InStep (n .walk)) InStep (each (output model c (n .walk .scope)) tt (allOf Graph·output g)) (n .walk) _
-      (each-matches (λ _ s. InStep (n .walk) s) (output model c (n .walk .scope))
-      (λ s o. perform K s (reads (nameOf model ValueInfo·name (message model o)))) (λ x s o k. output-matches (n .walk) x s o k)
-      (allOf Graph·output g) tt u k) (λ s k. k)))))))
+      (λ n u k. each-matches InStep (output model c) (λ s o. perform K s (reads (nameOf model ValueInfo·name (message model o))))
+      (λ v s o k. output-matches v s o k) (allOf Graph·output g) (n .walk) u k))))))
 
 -- ---- the depths: the runner has as many as the judge, or more
 

@@ -46,10 +46,14 @@ silent p q false true c h i j = absurd i
 silent p q false false true h i j = absurd j
 silent p q false false false h i j = refl
 
-pub quiet-among : {A : Type 0} (R : A → Type 0) (Q : ℕ → Type 0) (ns : List ℕ) (j : Judged A) → Untied ns → Tells R (Among ns Q) j → Quiet j
-quiet-among R Q ns j u t = tells-weaken R Any (Among ns Q) (λ r. stopOf r ≡ none) j (λ a h. tt) (λ r h.
+pub told-among : {A : Type 0} (R : A → Type 0) (Q : ℕ → Type 0) (ns : List ℕ) (j : Judged A)
+    → Untied ns → Tells R (Among ns Q) j → Tells R (λ r. stopOf r ≡ none) j
+told-among R Q ns j u t = tells-weaken R R (Among ns Q) (λ r. stopOf r ≡ none) j (λ a h. h) (λ r h.
     silent (r .place) (r .first) (eqb (r .number) 23) (eqb (r .number) 30) (eqb (r .number) 35) (not-one-of (r .number) 23 ns (u .0) (h .0))
     (not-one-of (r .number) 30 ns (u .1) (h .0)) (not-one-of (r .number) 35 ns (u .2) (h .0))) t
+
+pub quiet-among : {A : Type 0} (R : A → Type 0) (Q : ℕ → Type 0) (ns : List ℕ) (j : Judged A) → Untied ns → Tells R (Among ns Q) j → Quiet j
+quiet-among R Q ns j u t = tells-weaken R Any (λ r. stopOf r ≡ none) (λ r. stopOf r ≡ none) j (λ a h. tt) (λ r h. h) (told-among R Q ns j u t)
 
 pub quiet-rule : (n p : ℕ) (b : Bool) → stopOf (record { number = n; place = p; first = 0 }) ≡ none → Quiet (refuse n at: p when: b)
 quiet-rule n p b h = tells-last (λ r. stopOf r ≡ none) n p b (λ t. h)
@@ -76,32 +80,31 @@ module _ {A B C : Type 0} (R : A → B → Type 0) (S : C → B → Type 0) wher
   after-matches (pass a) o f m k = rw (m .1) (k a (m .0) (m .2))
   after-matches (fail r) o f m k = m
 
-module _ {B C D : Type 0} (R : B → Type 0) (S : C → D → Type 0) where
-  pub seq-matches : (j : Rule) (o : Outcome Stop B) (k : Judged C) (g : B → Outcome Stop D)
-      → Matches (λ _ b. R b) j o → ((b : B) → R b → Matches S k (g b))
-      → Matches S (j >> k) (o >>= g)
-  unfolding _>>=_ _>>_
-  seq-matches (pass a) o k g m h = rw (m .1) (h (m .0) (m .2))
-  seq-matches (fail r) o k g m h = tied-bind (stopOf r) o g m
-
 module _ {B C : Type 0} (R : B → Type 0) (S : C → B → Type 0) where
-  pub then-pass : (j : Rule) (c : C) (o : Outcome Stop B) → Matches (λ _ b. R b) j o → ((b : B) → R b → S c b) → Matches S (j >> pass c) o
+  pub then-matches : (j : Rule) (k : Judged C) (o : Outcome Stop B)
+      → Matches (λ _ b. R b) j o → ((b : B) → R b → Matches S k (pass b))
+      → Matches S (j >> k) o
   unfolding _>>_
-  then-pass (pass u) c o m h = (m .0, m .1, h (m .0) (m .2))
-  then-pass (fail r) c o m h = m
+  then-matches (pass u) k o m h = rw (m .1) (h (m .0) (m .2))
+  then-matches (fail r) k o m h = m
 
-module _ {B : Type 0} (R : B → Type 0) where
-  pub then-quiet : (j k : Rule) (o : Outcome Stop B) → Matches (λ _ b. R b) j o → Quiet k → Matches (λ _ b. R b) (j >> k) o
-  unfolding _>>_
-  then-quiet (pass u) (pass v) o m q = m
-  then-quiet (pass u) (fail r) o m q = rw q tt
-  then-quiet (fail r) k o m q = m
+-- a step of the judge alone, and what it tells of its value
+module _ {A C D : Type 0} (R : A → Type 0) (S : C → D → Type 0) where
+  pub told-matches : (j : Judged A) (f : A → Judged C) (o : Outcome Stop D)
+      → Tells R (λ r. stopOf r ≡ none) j → ((a : A) → R a → Matches S (f a) o)
+      → Matches S (j >>= f) o
+  unfolding _>>=_
+  told-matches (pass a) f o q k = k a q
+  told-matches (fail r) f o q k = rw q tt
+
+module _ {A D : Type 0} (R : A → Type 0) (S : A → D → Type 0) where
+  pub told-passes : (j : Judged A) (d : D) → Tells R (λ r. stopOf r ≡ none) j → ((a : A) → R a → S a d) → Matches S j (pass d)
+  told-passes (pass a) d q k = (d, refl, k a q)
+  told-passes (fail r) d q k = rw q tt
 
 module _ {A C D : Type 0} (S : C → D → Type 0) where
   pub quiet-matches : (j : Judged A) (f : A → Judged C) (o : Outcome Stop D) → Quiet j → ((a : A) → Matches S (f a) o) → Matches S (j >>= f) o
-  unfolding _>>=_
-  quiet-matches (pass a) f o q k = k a
-  quiet-matches (fail r) f o q k = rw q tt
+  quiet-matches j f o q k = told-matches Any S j f o q (λ a _. k a)
 
 module _ {C D : Type 0} (S : C → D → Type 0) where
   pub quiet-then : (j : Rule) (k : Judged C) (o : Outcome Stop D) → Quiet j → Matches S k o → Matches S (j >> k) o

@@ -7,14 +7,14 @@ use mathlib.Core.Bool.{Bool, true, false}
 use mathlib.Core.List.{List, [], _∷_}
 use lib.ListN.{length}
 use lib.Dec.{T}
-use Rattle.varint.specs.Outcome.{each, Judged}
+use Rattle.varint.specs.Outcome.{Judged}
 use Rattle.varint.specs.declared.Refusal.{Refusal}
 use Rattle.wire.specs.declared.Field.{Field}
 use Rattle.varint.specs.Lists.{isEmpty, contains}
 use Rattle.varint.specs.Bytes.{Bytes, same}
 use Rattle.wire.specs.Message.{Message, allOf, firstOf, text, message, whole}
 use Rattle.varint.proofs.Lists.{All, all-map, subset}
-use Rattle.varint.proofs.Tells.{Tells, Any, Among, tells-bind, tells-weaken, tells-seq, tells-if, tells-option, tells-rule, tells-first, tells-last, tells-each}
+use Rattle.varint.proofs.Tells.{Tells, Any, Among, tells-bind, tells-weaken, tells-seq, tells-if, tells-option, tells-rule, tells-first, tells-each}
 use Rattle.wire.proofs.Reading.{Fits}
 use Rattle.wire.proofs.Fields.{message-ordered, ordered-all}
 use Rattle.schema.specs.Numbers.{Model·graph, Graph·node, Graph·name, Graph·initializer, Graph·input, Graph·output}
@@ -23,7 +23,8 @@ use Rattle.schema.specs.Numbers.{Node·input, Node·output, Node·op-type, Node
 use Rattle.schema.specs.FirstWalk.{firstWalk}
 use Rattle.schema.proofs.Refusals.{FirstWalk·refusals, firstWalk-tells}
 use Rattle.rules.specs.Names.{Name, nameOf, nameIn, bodiesOf, inputsOf}
-use Rattle.rules.specs.Walk.{Context, nestedIn, inMain, Walk, GraphJudge, start, withName, withNode, leaving, Along, along, definedAt, naming, define}
+use Rattle.rules.specs.Walk.{Context, nestedIn, inMain, Walk, GraphJudge, start, withName, withNode, withTested, leaving}
+use Rattle.rules.specs.Walk.{Along, along, definedAt, tested, naming, define}
 use Rattle.rules.specs.Types.{declaredType}
 use Rattle.rules.specs.Node.{nodeName, nodeInput, nodeOutput, body, attribute, node}
 use Rattle.rules.specs.Graph.{input, isDefault, defaultOrNew, initializer, output, graphWith, graph}
@@ -31,8 +32,8 @@ use Rattle.rules.specs.Header.{header, secondWalkTo, secondWalk}
 use Rattle.rules.specs.Verdict.{fills, verdict}
 use Rattle.rules.specs.Refusals.{refusals}
 use Rattle.rules.specs.Demands.{RefusedProperly}
-use Rattle.rules.proofs.Rules.{more-numbers, Type·refusals, Header·refusals, GoodMessage, good-message, good-all, good-bodies}
-use Rattle.rules.proofs.Rules.{good-first, good-place, naming-tells, main-type-tells, nodeName-tells, header-tells}
+use Rattle.rules.proofs.Rules.{more-numbers, Type·refusals, Header·refusals, Adds, GoodMessage, good-message, good-all, good-bodies}
+use Rattle.rules.proofs.Rules.{good-first, good-place, main-type-tells, nodeName-tells, header-tells}
 
 module _ (model : Bytes) where
   abbrev Good : Field → Type 0
@@ -95,15 +96,26 @@ module _ (model : Bytes) where
   place : (n : ℕ) (m : Message) → Placed m → Place (Rattle.wire.specs.Message.placeOf n m)
   place n m g = good-place model Good Place good-at good-in n m g
 
-  -- a name that passed stands at a good place
-  proper-naming : (empty n : ℕ) (m : Message) → T (subset (empty ∷ 21 ∷ []) refusals) → Placed m → Tells (λ x. Place (x .place)) Proper (naming model empty n m)
-  unfolding nameOf
-  proper-naming empty n m s g = tells-weaken (λ x. x ≡ nameOf model n m) (λ x. Place (x .place)) Proper Proper (naming model empty n m) (λ x e. rw e (place n m g)) (λ r p. p)
-      (proper-among _ (empty ∷ 21 ∷ []) (naming model empty n m) s (naming-tells model Good Place good-at good-in empty n m g))
+  -- a rule that only tests names leaves what is visible as it was
+  proper-adds : {A : Type 0} (to : A → Walk) (w : Walk) (k : ℕ) (ns : List ℕ) (o : Judged A) → T (subset ns refusals) → Scoped w
+      → Tells (λ a. Adds w k (to a)) (Among ns Place) o → Tells (λ a. Scoped (to a)) Proper o
+  proper-adds to w k ns o q s t =
+      tells-weaken (λ a. Adds w k (to a)) (λ a. Scoped (to a)) Proper Proper o (λ a h. rw (h .0) s) (λ r p. p) (proper-among (λ a. Adds w k (to a)) ns o q t)
 
-  proper-type : (c : Context) (v : Message) → Placed v → Tells Any Proper (inMain c (declaredType model v))
+  proper-tested : (w : Walk) (x : Name) → Scoped w → Place (x .place) → Tells Scoped Proper (tested w x)
+  unfolding tested withTested contains
+  proper-tested w x s p = tells-rule Scoped Proper 21 _ _ _ (λ b. (tt, p, inl refl)) (λ b. s)
+
+  proper-naming : (empty n : ℕ) (w : Walk) (m : Message)
+      → T (contains empty refusals) → Scoped w → Placed m → Tells Scoped Proper (naming empty w (nameOf model n m))
+  unfolding naming nameOf
+  proper-naming empty n w m q s g =
+      tells-rule Scoped Proper empty _ _ _ (λ b. (q, place n m g, inl refl)) (λ b. proper-tested w (nameOf model n m) s (place n m g))
+
+  proper-type : (c : Context) (v : Message) (w : Walk) → Scoped w → Placed v → Tells Scoped Proper (inMain c (declaredType model v) w)
   unfolding subset contains
-  proper-type c v g = proper-among Any Type·refusals (inMain c (declaredType model v)) tt (main-type-tells model Good Place good-at good-in c v g)
+  proper-type c v w s g =
+      proper-adds (λ u. u) w _ Type·refusals (inMain c (declaredType model v) w) tt s (main-type-tells model Good Place good-at good-in c v w g)
 
   module _ (full : ℕ → Bool) where
     proper-define : (w : Walk) (x : Name) → Scoped w → Place (x .place) → Tells Scoped Proper (define full w x)
@@ -113,37 +125,42 @@ module _ (model : Bytes) where
         (λ b. tells-rule Scoped Proper 40 _ _ _ (λ b. (tt, p, inl refl)) (λ b. (p, s)))
 
     proper-input : (c : Context) (w : Walk) (f : Field) → Scoped w → Good f → Tells Scoped Proper (input model full c w f)
-    unfolding input subset contains
+    unfolding input nameOf contains
     proper-input c w f s g =
-        tells-bind (λ x. Place (x .place)) Scoped Proper _ _ (proper-naming 22 ValueInfo·name (message model f) tt (placed f g)) (λ x p.
-        tells-bind Scoped Scoped Proper _ _ (proper-define w x s p)
-        (λ v t. tells-seq Scoped Proper (inMain c (declaredType model (message model f))) _ (proper-type c (message model f) (placed f g)) t))
+        let m = message model f in
+        tells-bind Scoped Scoped Proper _ _ (proper-naming 22 ValueInfo·name w m tt s (placed f g)) (λ t h.
+        tells-bind Scoped Scoped Proper _ _ (proper-define t (nameOf model ValueInfo·name m) h (place ValueInfo·name m (placed f g)))
+        (λ v i. proper-type c m v i (placed f g)))
 
     proper-initializer : (c : Context) (inputs : List Bytes) (w : Along) (f : Field) → ScopedAlong w → Good f → Tells ScopedAlong Proper (initializer model full c inputs w f)
-    unfolding initializer defaultOrNew subset contains
+    unfolding initializer defaultOrNew nameOf contains
     proper-initializer c inputs w f s g =
-        tells-bind (λ x. Place (x .place)) ScopedAlong Proper _ _ (proper-naming 22 Tensor·name (message model f) tt (placed f g)) (λ x p.
+        let m = message model f in
+        let x = nameOf model Tensor·name m in
+        tells-bind Scoped ScopedAlong Proper _ _ (proper-naming 22 Tensor·name (w .walk) m tt s (placed f g)) (λ t h.
         tells-bind Scoped ScopedAlong Proper _ _
-        (tells-if Scoped Proper (isDefault c inputs (w .earlier) (x .bytes)) _ _ (λ b. s) (λ b. proper-define (w .walk) x s p)) (λ v t.
-        tells-rule ScopedAlong Proper 26 _ _ _ (λ b. (tt, place Tensor·data-type (message model f) (placed f g), inl refl)) (λ b. t)))
+        (tells-if Scoped Proper (isDefault c inputs (w .earlier) (x .bytes)) _ _ (λ b. h) (λ b. proper-define t x h (place Tensor·name m (placed f g)))) (λ v i.
+        tells-rule ScopedAlong Proper 26 _ _ _ (λ b. (tt, place Tensor·data-type m (placed f g), inl refl)) (λ b. i)))
 
-    proper-node-input : (scope : List Name) (u : Unit {0}) (f : Field) → Good f → Tells Any Proper (nodeInput model scope u f)
-    unfolding nodeInput contains
-    proper-node-input scope u f g =
-        tells-if Any Proper (isEmpty (text model f)) _ _ (λ b. tt)
-        (λ b. tells-rule Any Proper 21 _ _ _ (λ b. (tt, good-at f g, inl refl)) (λ b. tells-last Proper 30 _ _ (λ b. (tt, good-at f g, inl refl))))
+    proper-node-input : (w : Walk) (f : Field) → Scoped w → Good f → Tells Scoped Proper (nodeInput model w f)
+    unfolding nodeInput nameIn contains
+    proper-node-input w f s g =
+        tells-if Scoped Proper (isEmpty (text model f)) _ _ (λ b. s) (λ b.
+        tells-bind Scoped Scoped Proper _ _ (proper-tested w (nameIn model f) s (good-at f g)) (λ v h.
+        tells-rule Scoped Proper 30 _ _ _ (λ b. (tt, good-at f g, inl refl)) (λ b. h)))
 
     proper-node-output : (w : Walk) (f : Field) → Scoped w → Good f → Tells Scoped Proper (nodeOutput model full w f)
-    unfolding nodeOutput nameIn contains
+    unfolding nodeOutput nameIn
     proper-node-output w f s g =
-        tells-if Scoped Proper (isEmpty (text model f)) _ _ (λ b. s)
-        (λ b. tells-rule Scoped Proper 21 _ _ _ (λ b. (tt, good-at f g, inl refl)) (λ b. proper-define w (nameIn model f) s (good-at f g)))
+        tells-if Scoped Proper (isEmpty (text model f)) _ _ (λ b. s) (λ b.
+        tells-bind Scoped Scoped Proper _ _ (proper-tested w (nameIn model f) s (good-at f g)) (λ v h. proper-define v (nameIn model f) h (good-at f g)))
 
-    proper-output : (c : Context) (scope : List Name) (u : Unit {0}) (f : Field) → Good f → Tells Any Proper (output model c scope u f)
-    unfolding output subset contains
-    proper-output c scope u f g =
-        tells-bind (λ x. Place (x .place)) Any Proper _ _ (proper-naming 22 ValueInfo·name (message model f) tt (placed f g)) (λ x p.
-        tells-rule Any Proper 35 _ _ _ (λ b. (tt, p, inl refl)) (λ b. proper-type c (message model f) (placed f g)))
+    proper-output : (c : Context) (w : Walk) (f : Field) → Scoped w → Good f → Tells Scoped Proper (output model c w f)
+    unfolding output nameOf contains
+    proper-output c w f s g =
+        let m = message model f in
+        tells-bind Scoped Scoped Proper _ _ (proper-naming 22 ValueInfo·name w m tt s (placed f g)) (λ v h.
+        tells-rule Scoped Proper 35 _ _ _ (λ b. (tt, place ValueInfo·name m (placed f g), inl refl)) (λ b. proper-type c m v h (placed f g)))
 
     -- ---- one level: `J` judges the graphs further in
 
@@ -153,50 +170,48 @@ module _ (model : Bytes) where
       proper-body w f s g = tells-bind Scoped Scoped Proper (J w f) _ (nest w f s g) (λ v _. s)
 
       proper-attribute : (w : Along) (f : Field) → ScopedAlong w → Good f → Tells ScopedAlong Proper (attribute model J w f)
-      unfolding attribute message subset contains
+      unfolding attribute message nameOf contains
       proper-attribute w f s g =
-          tells-bind (λ x. Place (x .place)) ScopedAlong Proper _ _ (proper-naming 22 Attribute·name (message model f) tt (placed f g)) (λ x p.
-          tells-rule ScopedAlong Proper 31 _ _ _ (λ b. (tt, p, inl refl)) (λ b.
+          let m = message model f in
+          tells-bind Scoped ScopedAlong Proper _ _ (proper-naming 22 Attribute·name (w .walk) m tt s (placed f g)) (λ t h.
+          tells-rule ScopedAlong Proper 31 _ _ _ (λ b. (tt, place Attribute·name m (placed f g), inl refl)) (λ b.
           tells-rule ScopedAlong Proper 33 _ _ _ (λ b. (tt, good-at f g, inl refl)) (λ b.
           tells-rule ScopedAlong Proper 32 _ _ _ (λ b. (tt, good-at f g, inl refl)) (λ b.
-          tells-bind Scoped ScopedAlong Proper _ _ (tells-each Good Scoped Proper (body J) (λ v k t h. proper-body v k t h) (bodiesOf (message model f))
-          (good-bodies model Good Place good-at good-in (message model f) (placed f g)) (w .walk) s) (λ v t. t)))))
+          tells-bind Scoped ScopedAlong Proper _ _ (tells-each Good Scoped Proper (body J) (λ v k t h. proper-body v k t h) (bodiesOf m)
+          (good-bodies model Good Place good-at good-in m (placed f g)) t h) (λ v i. i)))))
 
       proper-node : (w : Along) (f : Field) → ScopedAlong w → Good f → Tells ScopedAlong Proper (node model full c J w f)
       unfolding node withNode along message subset contains
       proper-node w f s g =
           let m = message model f in
           let q = placed f g in
-          tells-bind (λ x. Place (x .place)) ScopedAlong Proper _ _ (proper-naming 27 Node·op-type m tt q) (λ x _.
+          tells-bind Scoped ScopedAlong Proper _ _ (proper-naming 27 Node·op-type (w .walk) m tt s q) (λ t h.
           tells-rule ScopedAlong Proper 28 _ _ _ (λ b. (tt, place Node·domain m q, inl refl)) (λ b.
-          tells-bind Any ScopedAlong Proper _ _ (proper-among Any (21 ∷ 29 ∷ []) (nodeName model (w .earlier) m) tt
-          (nodeName-tells model Good Place good-at good-in (w .earlier) m q)) (λ names _.
-          tells-seq ScopedAlong Proper (each (nodeInput model (w .walk .scope)) tt (allOf Node·input m)) _
-          (tells-each Good Any Proper (nodeInput model (w .walk .scope)) (λ u k _ h. proper-node-input (w .walk .scope) u k h) (allOf Node·input m)
-          (parts Node·input m q) tt tt)
-          (tells-bind ScopedAlong ScopedAlong Proper _ _ (tells-each Good ScopedAlong Proper (attribute model J) (λ v k t h. proper-attribute v k t h)
-          (allOf Node·attribute m) (parts Node·attribute m q) (along (w .walk)) s) (λ a t.
+          tells-bind ScopedAlong ScopedAlong Proper _ _ (proper-adds (λ n. n .walk) t _ (21 ∷ 29 ∷ []) (nodeName model (w .earlier) t m) tt h
+          (nodeName-tells model Good Place good-at good-in (w .earlier) t m q)) (λ n h.
+          tells-bind Scoped ScopedAlong Proper _ _ (tells-each Good Scoped Proper (nodeInput model) (λ v k t h. proper-node-input v k t h)
+          (allOf Node·input m) (parts Node·input m q) (n .walk) h) (λ i h.
+          tells-bind ScopedAlong ScopedAlong Proper _ _ (tells-each Good ScopedAlong Proper (attribute model J) (λ v k t h. proper-attribute v k t h)
+          (allOf Node·attribute m) (parts Node·attribute m q) (along i) h) (λ a h.
           tells-rule ScopedAlong Proper 34 _ _ _ (λ b. (tt, good-at f g, inl refl)) (λ b.
           tells-bind Scoped ScopedAlong Proper _ _ (tells-each Good Scoped Proper (nodeOutput model full) (λ v k t h. proper-node-output v k t h)
-          (allOf Node·output m) (parts Node·output m q) (a .walk) t) (λ v u. u)))))))
+          (allOf Node·output m) (parts Node·output m q) (a .walk) h) (λ v u. u)))))))
 
       proper-graph : (w : Walk) (f : Field) → Scoped w → Good f → Tells Scoped Proper (graphWith model full c J w f)
-      unfolding graphWith along subset contains
+      unfolding graphWith along contains
       proper-graph w f s h =
           let g = message model f in
           let q = placed f h in
-          tells-bind (λ x. Place (x .place)) Scoped Proper _ _ (proper-naming 20 Graph·name g tt q) (λ x _.
+          tells-bind Scoped Scoped Proper _ _ (proper-naming 20 Graph·name w g tt s q) (λ t h.
           tells-rule Scoped Proper 16 _ _ _ (λ b. (tt, place Graph·sparse-initializer g q, inl refl)) (λ b.
           tells-bind Scoped Scoped Proper _ _ (tells-each Good Scoped Proper (input model full c) (λ v k t h. proper-input c v k t h) (allOf Graph·input g)
-          (parts Graph·input g q) w s) (λ v t.
+          (parts Graph·input g q) t h) (λ v h.
           tells-bind ScopedAlong Scoped Proper _ _ (tells-each Good ScopedAlong Proper (initializer model full c (inputsOf model g))
           (λ v k t h. proper-initializer c (inputsOf model g) v k t h) (allOf Graph·initializer g)
-          (parts Graph·initializer g q) (along v) t) (λ i u.
+          (parts Graph·initializer g q) (along v) h) (λ i h.
           tells-bind ScopedAlong Scoped Proper _ _ (tells-each Good ScopedAlong Proper (node model full c J) (λ v k t h. proper-node v k t h) (allOf Graph·node g)
-          (parts Graph·node g q) (along (i .walk)) u) (λ n r.
-          tells-seq Scoped Proper (each (output model c (n .walk .scope)) tt (allOf Graph·output g)) _
-          (tells-each Good Any Proper (output model c (n .walk .scope)) (λ u k _ h. proper-output c (n .walk .scope) u k h) (allOf Graph·output g)
-          (parts Graph·output g q) tt tt) r)))))
+          (parts Graph·node g q) (along (i .walk)) h) (λ n h.
+          tells-each Good Scoped Proper (output model c) (λ v k t h. proper-output c v k t h) (allOf Graph·output g) (parts Graph·output g q) (n .walk) h)))))
 
     proper-depths : (left : ℕ) (c : Context) (w : Walk) (f : Field) → Scoped w → Good f → Tells Scoped Proper (graph model full left c w f)
     unfolding graph contains

@@ -1,22 +1,28 @@
 -- Which numbers the rules refuse with, and at which places, over any property `Q` of places that holds of every field that the
 -- walk can come to: `Good` is a property of fields that passes on to the fields inside.
-use Prim.Native.Nat.{ℕ}
-use mathlib.Core.Path.{_≡_, refl}
-use mathlib.Core.List.{List, [], _∷_}
+use Prim.Native.Nat.{ℕ, _+_}
+use native.Mathlib.Omega.{arith}
+use mathlib.Core.Path.{_≡_, refl, ap, _∙_}
+use mathlib.Core.Bool.{Bool, true, false, not}
+use mathlib.Core.List.{List, [], _∷_, _++_, map, flatMap}
 use mathlib.Core.Option.{Option, none, some}
-use lib.Dec.{T, eqb, eqb-refl}
-use Rattle.varint.specs.Outcome.{Judged}
+use lib.ListN.{length}
+use lib.Dec.{T}
+use Rattle.varint.specs.Outcome.{pass, each, Judged, refused}
+use Rattle.varint.specs.declared.Refusal.{Refusal}
 use Rattle.wire.specs.declared.Field.{Field}
-use Rattle.varint.specs.Lists.{isEmpty, contains}
+use Rattle.varint.specs.Lists.{isEmpty, contains, keep}
 use Rattle.varint.specs.Bytes.{Bytes}
-use Rattle.wire.specs.Message.{Message, allOf, firstOf, placeOf, bytesOf, message}
-use Rattle.varint.proofs.Lists.{or-left, or-right, All, If, all-keep, all-first, subset, contains-subset}
-use Rattle.varint.proofs.Tells.{Tells, Any, Among, tells-bind, tells-weaken, tells-if, tells-option, tells-rule, tells-last, tells-each}
+use Rattle.wire.specs.Message.{Message, allOf, firstOf, placeOf, text, bytesOf, message}
+use Rattle.varint.proofs.Lists.{All, If, all-keep, all-first, subset, contains-subset}
+use Rattle.varint.proofs.Tells.{Tells, Any, Among, tells-bind, tells-weaken, tells-if, tells-rule, tells-each}
 use Rattle.schema.specs.Numbers.{Model·ir-version, Model·opset-import, Model·functions, ValueInfo·type, TypeProto·tensor}
 use Rattle.schema.specs.Numbers.{TensorType·elem-type, TensorType·shape, Shape·dim, Dimension·dim-value, Dimension·dim-param, Node·name}
-use Rattle.rules.specs.Names.{nameOf, bodiesOf}
-use Rattle.rules.specs.Walk.{Context, inMain, naming}
-use Rattle.rules.specs.Types.{dim, tensorType, declaredType}
+use Rattle.rules.specs.Identifier.{identifier}
+use Rattle.rules.specs.Names.{Name, nameOf, nameIn, bodiesOf}
+use Rattle.rules.specs.Walk.{Context, inMain, Walk, oddity, withTested, tested, naming}
+use Rattle.rules.specs.Types.{dimParam, dim, tensorType, declaredType}
+use Rattle.rules.specs.Count.{isOdd, odds, partOf, dimParams}
 use Rattle.rules.specs.Node.{nodeName}
 use Rattle.rules.specs.Header.{opsetImport, header}
 
@@ -28,6 +34,64 @@ Type·refusals = 21 ∷ 24 ∷ 25 ∷ 37 ∷ 38 ∷ []
 
 abbrev pub Header·refusals : List ℕ
 Header·refusals = 10 ∷ 11 ∷ 12 ∷ 13 ∷ 14 ∷ 15 ∷ []
+
+-- ---- a rule that only tests names leaves the walk as it was, but for the odd ones among them
+
+abbrev pub Adds : Walk → ℕ → Walk → Type 0
+Adds w k v = (v .scope ≡ w .scope) × (v .nodes ≡ w .nodes) × (v .most ≡ w .most) × (v .odd ≡ w .odd + k)
+
+pub odds-append : (xs ys : List Bytes) → odds (xs ++ ys) ≡ odds xs + odds ys
+unfolding odds keep
+odds-append [] ys = omega arith
+odds-append (x ∷ xs) ys = go (isOdd x) (odds-append xs ys)
+  where
+    go : (b : Bool) → length (keep isOdd (xs ++ ys)) ≡ length (keep isOdd xs) + length (keep isOdd ys)
+        → length {A = Bytes} (elim b as (λ _. List Bytes) [ true ↦ x ∷ keep isOdd (xs ++ ys) | false ↦ keep isOdd (xs ++ ys) ])
+        ≡ length {A = Bytes} (elim b as (λ _. List Bytes) [ true ↦ x ∷ keep isOdd xs | false ↦ keep isOdd xs ]) + length (keep isOdd ys)
+    go true e = omega arith
+    go false e = e
+
+pub odds-none : (x : Bytes) → T (isEmpty x) → odds (x ∷ []) ≡ 0
+unfolding odds keep isOdd isEmpty
+odds-none [] t = refl
+odds-none (b ∷ x) t = absurd t
+
+pub odds-some : (x : Bytes) → T (not (isEmpty x)) → odds (x ∷ []) ≡ oddity x
+unfolding odds keep isOdd isEmpty oddity
+odds-some [] t = absurd t
+odds-some (b ∷ x) t = go (identifier (b ∷ x))
+  where
+    go : (i : Bool)
+        → length {A = Bytes} (elim (not i) as (λ _. List Bytes) [ true ↦ (b ∷ x) ∷ [] | false ↦ [] ]) ≡ (elim i as (λ _. ℕ) [ true ↦ 0 | false ↦ 1 ])
+    go true = refl
+    go false = refl
+
+pub map-flat : {A B : Type 0} (k : A → B) (l : List A) → map k l ≡ flatMap (λ a. k a ∷ []) l
+unfolding flatMap
+map-flat k [] = refl
+map-flat k (a ∷ l) = ap (λ (m : List _). k a ∷ m) (map-flat k l)
+
+module _ (P : Refusal → Type 0) (w : Walk) (x : Name) where
+  pub tested-tells : T (not (isEmpty (x .bytes))) → P (record { number = 21; place = x .place; first = 0 })
+      → Tells (Adds w (odds (x .bytes ∷ []))) P (tested w x)
+  unfolding tested withTested
+  tested-tells t p =
+      tells-rule (Adds w (odds (x .bytes ∷ []))) P 21 _ _ _ (λ b. p) (λ b. let e = odds-some (x .bytes) t in (refl, refl, refl, omega arith))
+
+  pub naming-tells : (empty : ℕ) → P (record { number = empty; place = x .place; first = 0 }) → P (record { number = 21; place = x .place; first = 0 })
+      → Tells (Adds w (odds (x .bytes ∷ []))) P (naming empty w x)
+  unfolding naming
+  naming-tells empty q p = tells-rule (Adds w (odds (x .bytes ∷ []))) P empty _ _ _ (λ b. q) (λ b. tested-tells b p)
+
+module _ {A : Type 0} (Good : A → Type 0) (P : Refusal → Type 0) (k : A → List Bytes) (step : Walk → A → Judged Walk)
+    (one : (w : Walk) (a : A) → Good a → Tells (Adds w (odds (k a))) P (step w a)) where
+  pub adds-each : (list : List A) → All Good list → (w : Walk) → Tells (Adds w (odds (flatMap k list))) P (each step w list)
+  unfolding each flatMap odds keep
+  adds-each [] g w = (refl, refl, refl, omega arith)
+  adds-each (a ∷ more) g w =
+      tells-bind (Adds w (odds (k a))) (Adds w (odds (k a ++ flatMap k more))) P (step w a) _ (one w a (g .0)) (λ v h.
+      tells-weaken (Adds v (odds (flatMap k more))) (Adds w (odds (k a ++ flatMap k more))) P P (each step v more)
+      (λ u i. let e = odds-append (k a) (flatMap k more) in (i .0 ∙ h .0, i .1 ∙ h .1, i .2 ∙ h .2, omega arith)) (λ r p. p) (adds-each more (g .1) v))
 
 module _ (model : Bytes) (Good : Field → Type 0) (Q : ℕ → Type 0) (good-at : (f : Field) → Good f → Q (f .place))
     (good-in : (f : Field) → Good f → All Good (message model f .fields)) where
@@ -58,52 +122,102 @@ module _ (model : Bytes) (Good : Field → Type 0) (Q : ℕ → Type 0) (good-at
       go none h = g .0
       go (some f) h = good-at f h
 
-  pub naming-tells : (empty number : ℕ) (m : Message) → GoodMessage m → Tells (λ x. x ≡ nameOf model number m) (Among (empty ∷ 21 ∷ []) Q) (naming model empty number m)
-  unfolding naming contains
-  naming-tells empty number m g = tells-rule _ _ empty _ _ _ (λ b. (here, good-place number m g, refl)) (λ b. tells-rule _ _ 21 _ _ _ (λ b. (there, good-place number m g, refl)) (λ b. refl))
-    where
-      here : T (contains empty (empty ∷ 21 ∷ []))
-      here = or-left (eqb empty empty) (contains empty (21 ∷ [])) (eqb-refl empty)
-
-      there : T (contains 21 (empty ∷ 21 ∷ []))
-      there = or-right (eqb 21 empty) (contains 21 (21 ∷ [])) tt
-
   -- ---- types
 
-  dim-tells : (u : Unit {0}) (f : Field) → Good f → Tells Any (Among Type·refusals Q) (dim model u f)
+  param-tells : (w : Walk) (d : Message) → GoodMessage d
+      → Tells (Adds w (odds (bytesOf model Dimension·dim-param d ∷ []))) (Among Type·refusals Q) (dimParam model w d)
+  unfolding dimParam bytesOf contains nameIn isEmpty
+  param-tells w d g = go (firstOf Dimension·dim-param d) (good-first Dimension·dim-param d g)
+    where
+      go : (o : Option Field) → If Good o
+          → Tells (Adds w (odds ((elim o as (λ _. Bytes) [ none ↦ [] | some f ↦ text model f ]) ∷ []))) (Among Type·refusals Q)
+          (elim o as (λ _. Judged Walk) [ none ↦ pass w | some p ↦ naming 21 w (nameIn model p) ])
+      go none h = let e = odds-none [] tt in (refl, refl, refl, omega arith)
+      go (some p) h = naming-tells (Among Type·refusals Q) w (nameIn model p) 21 (tt, good-at p h, refl) (tt, good-at p h, refl)
+
+  -- the name of a dimension
+  abbrev pub inDim : Field → List Bytes
+  inDim d = bytesOf model Dimension·dim-param (message model d) ∷ []
+
+  pub dim-tells : (w : Walk) (f : Field) → Good f → Tells (Adds w (odds (inDim f))) (Among Type·refusals Q) (dim model w f)
   unfolding dim contains
-  dim-tells u f g =
+  dim-tells w f g =
       let h = good-message f g in
-      tells-rule Any (Among Type·refusals Q) 38 _ _ _ (λ b. (tt, good-place Dimension·dim-value (message model f) h, refl))
-      (λ b. tells-last (Among Type·refusals Q) 21 _ _ (λ b. (tt, good-place Dimension·dim-param (message model f) h, refl)))
+      tells-rule _ (Among Type·refusals Q) 38 _ _ _ (λ b. (tt, good-place Dimension·dim-value (message model f) h, refl))
+      (λ b. param-tells w (message model f) h)
 
-  tensor-tells : (t : Message) → GoodMessage t → Tells Any (Among Type·refusals Q) (tensorType model t)
-  unfolding tensorType contains
-  tensor-tells t g =
-      tells-rule Any (Among Type·refusals Q) 25 _ _ _ (λ b. (tt, good-place TensorType·elem-type t g, refl)) (λ b.
-      tells-option Any (Among Type·refusals Q) Good (firstOf TensorType·shape t) _ _ (good-first TensorType·shape t g) (tt, g .0, refl) (λ shape h.
-      tells-each Good Any (Among Type·refusals Q) (dim model) (λ u f _ k. dim-tells u f k) (allOf Shape·dim (message model shape))
-      (good-all Shape·dim (message model shape) (good-message shape h)) tt tt))
+  -- a part of `m` that is there, or a message of no fields
+  abbrev orNone : Message → Option Field → Message
+  orNone m o = elim o as (λ _. Message) [ none ↦ record { place = m .place; fields = [] } | some f ↦ message model f ]
 
-  pub type-tells : (v : Message) → GoodMessage v → Tells Any (Among Type·refusals Q) (declaredType model v)
-  unfolding declaredType contains
-  type-tells v g =
-      tells-option Any (Among Type·refusals Q) Good (firstOf ValueInfo·type v) _ _ (good-first ValueInfo·type v g) (tt, g .0, refl) (λ t h.
-      tells-option Any (Among Type·refusals Q) Good (firstOf TypeProto·tensor (message model t)) _ _
-      (good-first TypeProto·tensor (message model t) (good-message t h)) (tt, good-at t h, refl) (λ u k.
-      tensor-tells (message model u) (good-message u k)))
+  tensor-tells : (t : Message) (w : Walk) → GoodMessage t → Tells (Adds w (odds (dimParams model t))) (Among Type·refusals Q) (tensorType model t w)
+  unfolding tensorType dimParams partOf contains
+  tensor-tells t w g = rw (map-flat (λ d. bytesOf model Dimension·dim-param (message model d)))
+      (tells-rule _ (Among Type·refusals Q) 25 _ _ _ (λ b. (tt, good-place TensorType·elem-type t g, refl))
+      (λ b. go (firstOf TensorType·shape t) (good-first TensorType·shape t g)))
+    where
+      go : (o : Option Field) → If Good o
+          → Tells (Adds w (odds (flatMap inDim (allOf Shape·dim (orNone t o))))) (Among Type·refusals Q)
+          (elim o as (λ _. Judged Walk) [ none ↦ refused 37 (t .place) | some shape ↦ each (dim model) w (allOf Shape·dim (message model shape)) ])
+      go none h = (tt, g .0, refl)
+      go (some shape) h =
+          adds-each Good (Among Type·refusals Q) inDim (dim model) dim-tells (allOf Shape·dim (message model shape))
+          (good-all Shape·dim (message model shape) (good-message shape h)) w
 
-  pub main-type-tells : (c : Context) (v : Message) → GoodMessage v → Tells Any (Among Type·refusals Q) (inMain c (declaredType model v))
-  unfolding inMain
-  main-type-tells c v g = tells-if Any (Among Type·refusals Q) (c .main) _ _ (λ b. type-tells v g) (λ b. tt)
+  -- the names of the type that a ValueInfo declares
+  abbrev pub typeNames : Message → List Bytes
+  typeNames v = dimParams model (partOf model TypeProto·tensor (partOf model ValueInfo·type v))
+
+  pub type-tells : (v : Message) (w : Walk) → GoodMessage v → Tells (Adds w (odds (typeNames v))) (Among Type·refusals Q) (declaredType model v w)
+  unfolding declaredType partOf contains message
+  type-tells v w g = outer (firstOf ValueInfo·type v) (good-first ValueInfo·type v g)
+    where
+      inner : (type : Field) → Good type → (o : Option Field) → If Good o
+          → Tells (Adds w (odds (dimParams model (orNone (message model type) o)))) (Among Type·refusals Q)
+          (elim o as (λ _. Judged Walk) [ none ↦ refused 24 (type .place) | some tensor ↦ tensorType model (message model tensor) w ])
+      inner type h none k = (tt, good-at type h, refl)
+      inner type h (some tensor) k = tensor-tells (message model tensor) w (good-message tensor k)
+
+      outer : (o : Option Field) → If Good o
+          → Tells (Adds w (odds (dimParams model (partOf model TypeProto·tensor (orNone v o))))) (Among Type·refusals Q)
+          (elim o as (λ _. Judged Walk) [
+            | none ↦ refused 24 (v .place)
+            | some type ↦ elim (firstOf TypeProto·tensor (message model type)) as (λ _. Judged Walk) [
+              | none ↦ refused 24 (type .place)
+              | some tensor ↦ tensorType model (message model tensor) w
+            ]
+          ])
+      outer none h = (tt, g .0, refl)
+      outer (some type) h =
+          inner type h (firstOf TypeProto·tensor (message model type)) (good-first TypeProto·tensor (message model type) (good-message type h))
+
+  -- the names of the type, in the main graph
+  abbrev pub inType : Context → Message → List Bytes
+  inType c v = elim (c .main) as (λ _. List Bytes) [ true ↦ typeNames v | false ↦ [] ]
+
+  pub main-type-tells : (c : Context) (v : Message) (w : Walk) → GoodMessage v
+      → Tells (Adds w (odds (inType c v))) (Among Type·refusals Q) (inMain c (declaredType model v) w)
+  unfolding inMain odds keep
+  main-type-tells c v w g = go (c .main)
+    where
+      go : (b : Bool)
+          → Tells (Adds w (odds (elim b as (λ _. List Bytes) [ true ↦ typeNames v | false ↦ [] ]))) (Among Type·refusals Q)
+          (elim b as (λ _. Judged Walk) [ true ↦ declaredType model v w | false ↦ pass w ])
+      go true = type-tells v w g
+      go false = (refl, refl, refl, omega arith)
 
   -- ---- the name of a node
 
-  pub nodeName-tells : (earlier : List Bytes) (m : Message) → GoodMessage m → Tells Any (Among (21 ∷ 29 ∷ []) Q) (nodeName model earlier m)
-  unfolding nodeName contains
-  nodeName-tells earlier m g = tells-if Any (Among (21 ∷ 29 ∷ []) Q) (isEmpty (bytesOf model Node·name m)) _ _ (λ b. tt) (λ b.
-      tells-rule Any (Among (21 ∷ 29 ∷ []) Q) 21 _ _ _ (λ b. (tt, good-place Node·name m g, refl))
-      (λ b. tells-rule Any (Among (21 ∷ 29 ∷ []) Q) 29 _ _ _ (λ b. (tt, good-place Node·name m g, refl)) (λ b. tt)))
+  pub nodeName-tells : (earlier : List Bytes) (w : Walk) (m : Message) → GoodMessage m
+      → Tells (λ n. Adds w (odds (bytesOf model Node·name m ∷ [])) (n .walk)) (Among (21 ∷ 29 ∷ []) Q) (nodeName model earlier w m)
+  unfolding nodeName nameOf contains
+  nodeName-tells earlier w m g =
+      tells-if _ (Among (21 ∷ 29 ∷ []) Q) (isEmpty (bytesOf model Node·name m)) _ _
+      (λ b. let e = odds-none (bytesOf model Node·name m) b in (refl, refl, refl, omega arith)) (λ b.
+      tells-bind (Adds w (odds (bytesOf model Node·name m ∷ []))) (λ n. Adds w (odds (bytesOf model Node·name m ∷ [])) (n .walk)) (Among (21 ∷ 29 ∷ []) Q)
+      (tested w (nameOf model Node·name m)) _
+      (tested-tells (Among (21 ∷ 29 ∷ []) Q) w (nameOf model Node·name m) b (tt, good-place Node·name m g, refl)) (λ v h.
+      tells-rule _ (Among (21 ∷ 29 ∷ []) Q) 29 _ _ _ (λ b. (tt, good-place Node·name m g, refl)) (λ b. h)))
 
   -- ---- the header
 

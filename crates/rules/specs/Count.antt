@@ -1,13 +1,20 @@
--- A plain count of nodes, with no scope and no rules, to hold the count of an acceptance against.
+-- Plain counts of nodes and of odd names, with no scope and no rules, to hold the counts of an acceptance against.
 use Prim.Native.Nat.{ℕ, zero, suc}
-use mathlib.Core.List.{List, [], _∷_, flatMap}
+use mathlib.Core.Bool.{Bool, true, false, not, _&&_}
+use mathlib.Core.List.{List, [], _∷_, _++_, map, flatMap}
 use mathlib.Core.Option.{none, some}
 use lib.ListN.{length}
 use Rattle.wire.specs.declared.Field.{Field}
+use Rattle.varint.specs.Lists.{isEmpty, keep}
 use Rattle.varint.specs.Bytes.{Bytes}
-use Rattle.wire.specs.Message.{allOf, firstOf, message, whole}
-use Rattle.schema.specs.Numbers.{Model·graph, Graph·node}
-use Rattle.rules.specs.Names.{bodiesIn}
+use Rattle.wire.specs.Message.{Message, allOf, firstOf, text, bytesOf, message, whole}
+use Rattle.schema.specs.Numbers.{Model·graph, Graph·node, Graph·name, Graph·initializer, Graph·input, Graph·output, Node·input, Node·output, Node·name}
+use Rattle.schema.specs.Numbers.{Node·op-type, Node·attribute, Attribute·name, Tensor·name, ValueInfo·name, ValueInfo·type, TypeProto·tensor}
+use Rattle.schema.specs.Numbers.{TensorType·shape, Shape·dim, Dimension·dim-param}
+use Rattle.rules.specs.Identifier.{identifier}
+use Rattle.rules.specs.Names.{bodiesOf, bodiesIn}
+
+-- ---- nodes
 
 module _ (model : Bytes) where
   -- The node fields of a graph and of the graphs within it, to `bound` depths.
@@ -21,3 +28,60 @@ module _ (model : Bytes) where
   -- "nodes in all graphs". A graph is longer than one inside it, so the length of the model is bound enough.
   unfoldable pub nodeCount : ℕ
   nodeCount = nodesTo (length model)
+
+-- ---- odd names
+
+-- "nonempty fields .. that are not identifiers"
+unfoldable pub isOdd : Bytes → Bool
+isOdd x = not (isEmpty x) && not (identifier x)
+
+unfoldable pub odds : List Bytes → ℕ
+odds names = length (keep isOdd names)
+
+module _ (model : Bytes) where
+  -- The message in a message's field of this number; one that is absent has no fields.
+  unfoldable pub partOf : ℕ → Message → Message
+  partOf n m = elim (firstOf n m) [ none ↦ record { place = m .place; fields = [] } | some f ↦ message model f ]
+
+  -- The dim_params of a tensor type.
+  unfoldable pub dimParams : Message → List Bytes
+  dimParams t = map (λ d. bytesOf model Dimension·dim-param (message model d)) (allOf Shape·dim (partOf TensorType·shape t))
+
+  -- The name of an input or an output, and in the main graph the dim_params of its type.
+  unfoldable pub valueNames : (main : Bool) → Field → List Bytes
+  valueNames main f =
+      let v = message model f in
+      bytesOf model ValueInfo·name v ∷ elim main [ true ↦ dimParams (partOf TypeProto·tensor (partOf ValueInfo·type v)) | false ↦ [] ]
+
+  -- All names of an attribute, a node and a graph; `inner` has those of the graphs within.
+  module _ (inner : Field → List Bytes) where
+    unfoldable pub attributeNames : Field → List Bytes
+    attributeNames f = let a = message model f in bytesOf model Attribute·name a ∷ flatMap inner (bodiesOf a)
+
+    unfoldable pub nodeNames : Field → List Bytes
+    nodeNames f =
+        let m = message model f in
+        bytesOf model Node·op-type m ∷ bytesOf model Node·name m
+        ∷ map (text model) (allOf Node·input m)
+        ++ flatMap attributeNames (allOf Node·attribute m)
+        ++ map (text model) (allOf Node·output m)
+
+    unfoldable pub graphNames : (main : Bool) → Field → List Bytes
+    graphNames main f =
+        let g = message model f in
+        bytesOf model Graph·name g
+        ∷ flatMap (valueNames main) (allOf Graph·input g)
+        ++ map (λ t. bytesOf model Tensor·name (message model t)) (allOf Graph·initializer g)
+        ++ flatMap nodeNames (allOf Graph·node g)
+        ++ flatMap (valueNames main) (allOf Graph·output g)
+
+  -- To `bound` depths.
+  unfoldable pub namesIn : (bound : ℕ) → (main : Bool) → (graph : Field) → List Bytes
+  namesIn zero main g = []
+  namesIn (suc bound) main g = graphNames (λ b. namesIn bound false b) main g
+
+  unfoldable pub oddTo : (bound : ℕ) → ℕ
+  oddTo bound = elim (firstOf Model·graph (message model (whole model))) [ none ↦ 0 | some g ↦ odds (namesIn bound true g) ]
+
+  unfoldable pub oddIn : ℕ
+  oddIn = oddTo (length model)

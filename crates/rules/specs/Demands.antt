@@ -31,7 +31,7 @@ use Rattle.rules.specs.Walk.{Walk}
 use Rattle.rules.specs.Header.{secondWalkTo, secondWalk}
 use Rattle.rules.specs.Verdict.{LARGEST, Counts, counts, room, verdict}
 use Rattle.rules.specs.Runner.{Read, binding, reading, Run, find, runTo, run}
-use Rattle.rules.specs.Count.{nodesTo, nodeCount}
+use Rattle.rules.specs.Count.{nodesTo, nodeCount, oddTo, oddIn}
 use Rattle.rules.specs.Refusals.{refusals}
 
 -- ---- demand 2
@@ -51,11 +51,11 @@ AcceptedExactly =
     (model list : Bytes) (cells : ℕ) (c : Counts) → (verdict model list cells ≡ pass c) ↔ Acceptable model list cells c
 
 -- "Acceptance reports the true count of nodes and that greatest count": the plain count, and the most names bound together
--- at any moment of the run that enters every body once.
+-- at any moment of the run that enters every body once. The third count is a plain one too.
 unfoldable pub CountsTrue : Type 0
 CountsTrue =
     (model list : Bytes) (cells : ℕ) (c : Counts) → verdict model list cells ≡ pass c →
-    (c .nodes ≡ nodeCount model) × ((r : Run) × (run model [] ≡ pass r) × (c .names ≡ r .most))
+    (c .nodes ≡ nodeCount model) × ((r : Run) × (run model [] ≡ pass r) × (c .names ≡ r .most)) × (c .odd ≡ oddIn model)
 
 -- "a numbered refusal with a byte place": a number of the table, and 0 or a place inside the model. The second number is 0, or of a
 -- name defined twice a place inside the model, not always before the first: wire order is not list order.
@@ -139,6 +139,7 @@ pub record BoundsNeverDecide : Type 0 where
       secondWalkTo model list depth full ≡ secondWalk model list full
   pub of-run : (model : Bytes) (bound : ℕ) (choices : List ℕ) → length model ≤ bound → runTo model bound choices ≡ run model choices
   pub of-nodes : (model : Bytes) (bound : ℕ) → length model ≤ bound → nodesTo model bound ≡ nodeCount model
+  pub of-odd : (model : Bytes) (bound : ℕ) → length model ≤ bound → oddTo model bound ≡ oddIn model
 
 -- No name in the list has these bytes.
 abbrev pub Absent : Bytes → List Name → Type 0

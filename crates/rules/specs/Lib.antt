@@ -1,6 +1,8 @@
 pub mod Identifier
+pub mod Utf8
 pub mod Names
 pub mod Walk
+pub mod Spelling
 pub mod Types
 pub mod Node
 pub mod Graph

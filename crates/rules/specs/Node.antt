@@ -4,16 +4,15 @@ use mathlib.Core.Bool.{Bool, true, false, not, _&&_, _||_}
 use mathlib.Core.List.{List, [], _∷_, map}
 use mathlib.Core.Option.{none, some}
 use lib.Dec.{eqb}
-use Rattle.varint.specs.Outcome.{pass, _>>=_, _>>_, each, Judged, Rule, refuse_at:_when:_}
+use Rattle.varint.specs.Outcome.{pass, _>>=_, _>>_, each, Judged, refuse_at:_when:_}
 use Rattle.wire.specs.declared.Field.{Field}
 use Rattle.varint.specs.Lists.{isEmpty, contains, lookup}
 use Rattle.varint.specs.Bytes.{Bytes, member}
 use Rattle.wire.specs.Message.{Message, allOf, numberOf, placeOf, text, bytesOf, message}
 use Rattle.operators.specs.Operators.{domain, Operators·computes}
 use Rattle.schema.specs.Numbers.{Node·input, Node·output, Node·name, Node·op-type, Node·attribute, Node·domain, Attribute·name, Attribute·type, Attribute·ref-attr-name}
-use Rattle.rules.specs.Identifier.{identifier}
-use Rattle.rules.specs.Names.{Name, nameIn, bodiesOf}
-use Rattle.rules.specs.Walk.{Context, Walk, GraphJudge, withNode, leaving, Along, along, visible, naming, define, Walk·computes}
+use Rattle.rules.specs.Names.{nameOf, nameIn, bodiesOf}
+use Rattle.rules.specs.Walk.{Context, Walk, GraphJudge, withNode, leaving, Along, along, visible, tested, naming, define, Walk·computes}
 
 -- ---- attribute values
 
@@ -60,22 +59,24 @@ badValue type a = elim (lookup type carriers) [
 
 module _ (model : Bytes) where
   -- "a nonempty node name (21, 29)": the names used in the graph, with this one.
-  unfoldable pub nodeName : (earlier : List Bytes) → Message → Judged (List Bytes)
-  nodeName earlier m = elim (isEmpty (bytesOf model Node·name m)) [
-    | true ↦ pass earlier
+  unfoldable pub nodeName : (earlier : List Bytes) → Walk → Message → Judged Along
+  nodeName earlier w m = elim (isEmpty (bytesOf model Node·name m)) [
+    | true ↦ pass (record { walk = w; earlier = earlier })
     | false ↦ do
-      refuse 21 at: placeOf Node·name m when: not (identifier (bytesOf model Node·name m))
-      refuse 29 at: placeOf Node·name m when: member (bytesOf model Node·name m) earlier
-      pass (bytesOf model Node·name m ∷ earlier)
+      let x = nameOf model Node·name m
+      v ← tested w x
+      refuse 29 at: x .place when: member (x .bytes) earlier
+      pass (record { walk = v; earlier = x .bytes ∷ earlier })
   ]
 
   -- "An empty input or output means "left out" and is passed over. Input: 21, 30."
-  unfoldable pub nodeInput : (scope : List Name) → Unit {0} → Field → Rule
-  nodeInput scope _ f = elim (isEmpty (text model f)) [
-    | true ↦ pass tt
+  unfoldable pub nodeInput : Walk → Field → Judged Walk
+  nodeInput w f = elim (isEmpty (text model f)) [
+    | true ↦ pass w
     | false ↦ do
-      refuse 21 at: f .place when: not (identifier (text model f))
-      refuse 30 at: f .place when: not (visible (text model f) scope)
+      v ← tested w (nameIn model f)
+      refuse 30 at: f .place when: not (visible (text model f) (v .scope))
+      pass v
   ]
 
   -- "Output: 21, 23, 40, and is visible from then on."
@@ -83,8 +84,8 @@ module _ (model : Bytes) where
   nodeOutput full w f = elim (isEmpty (text model f)) [
     | true ↦ pass w
     | false ↦ do
-      refuse 21 at: f .place when: not (identifier (text model f))
-      define full w (nameIn model f)
+      v ← tested w (nameIn model f)
+      define full v (nameIn model f)
   ]
 
 -- ---- attribute and node; `nested` judges a graph that an attribute holds
@@ -99,25 +100,26 @@ body nested w f = do
 unfoldable pub attribute : (model : Bytes) → (nested : GraphJudge) → Along → Field → Judged Along
 attribute model nested w f = do
   let a = message model f
-  x ← naming model 22 Attribute·name a
+  let x = nameOf model Attribute·name a
+  t ← naming 22 (w .walk) x
   refuse 31 at: x .place when: member (x .bytes) (w .earlier)
   refuse 33 at: a .place when: not (isEmpty (bytesOf model Attribute·ref-attr-name a))
   refuse 32 at: a .place when: badValue (numberOf Attribute·type a) a
-  v ← each (body nested) (w .walk) (bodiesOf a)
+  v ← each (body nested) t (bodiesOf a)
   pass (record { walk = v; earlier = x .bytes ∷ w .earlier })
 
 -- "Node: op_type (27, 21); 28; a nonempty node name (21, 29); inputs; attributes; 34; outputs."
 unfoldable pub node : (model : Bytes) → (full : ℕ → Bool) → Context → (nested : GraphJudge) → Along → Field → Judged Along
 node model full c nested w f = do
   let m = message model f
-  _ ← naming model 27 Node·op-type m
+  t ← naming 27 (w .walk) (nameOf model Node·op-type m)
   refuse 28 at: placeOf Node·domain m when: not (member (domain (bytesOf model Node·domain m)) (c .imports))
-  names ← nodeName model (w .earlier) m
-  each (nodeInput model (w .walk .scope)) tt (allOf Node·input m)
-  a ← each (attribute model nested) (along (w .walk)) (allOf Node·attribute m)
+  n ← nodeName model (w .earlier) t m
+  i ← each (nodeInput model) (n .walk) (allOf Node·input m)
+  a ← each (attribute model nested) (along i) (allOf Node·attribute m)
   refuse 34 at: m .place when: isEmpty (allOf Node·output m)
   v ← each (nodeOutput model full) (a .walk) (allOf Node·output m)
-  pass (record { walk = withNode v; earlier = names })
+  pass (record { walk = withNode v; earlier = n .earlier })
 
 -- This file and what it is built on, for whoever computes with it.
 unfoldable pub Node·computes : Unit {0}

@@ -21,7 +21,7 @@ refusals =
     ∷ 15  -- functions present
     ∷ 16  -- sparse_initializer present
     ∷ 20  -- graph name empty
-    ∷ 21  -- not an identifier
+    ∷ 21  -- not well-formed UTF-8, or an empty dim_param
     ∷ 22  -- name empty
     ∷ 23  -- name already visible
     ∷ 24  -- main input or output has no tensor type

@@ -14,8 +14,8 @@ M0 = hex "08 08 42 02 10 0D 3A 03 12 01 67"
 M1 : Bytes
 M1 = hex "08 08 42 02 10 0D 3A 0B 12 01 67 0A 06 12 01 61 22 01 58"
 
-accepted : (nodes names : ℕ) → Judged Counts
-accepted nodes names = pass (record { nodes = nodes; names = names })
+accepted : (nodes names odd : ℕ) → Judged Counts
+accepted nodes names odd = pass (record { nodes = nodes; names = names; odd = odd })
 
 samples : List (Bytes × ℕ × Judged Counts)
 samples =
@@ -26,8 +26,8 @@ samples =
     ∷ (hex "08 08 08 08", 0, refused 5 2)
     ∷ (hex "08 FF FF FF FF FF FF FF FF FF 01", 0, refused 10 0)
     ∷ (hex "08 FF FF FF FF FF FF FF FF FF 02", 0, refused 2 0)
-    ∷ (M0, 0, accepted 0 0)
-    ∷ (M1, 2, accepted 1 1)
+    ∷ (M0, 0, accepted 0 0 0)
+    ∷ (M1, 2, accepted 1 1 0)
     ∷ (M1, 0, refused 40 13)
     ∷ (hex "08 08 42 02 10 0D 3A 0E 12 01 67 0A 09 0A 01 61 12 01 61 22 01 58", 1, refused 30 13)
     ∷ (hex "08 08 42 02 10 0D 3A 0E 12 01 67 0A 09 12 01 61 12 01 61 22 01 58", 2, refusedWith 23 16 13)

@@ -1,5 +1,5 @@
 -- The answer to a model, an operator list and a number of cells: "either *accepted* with two counts, or *refused* with a number
--- and a place", and a second number.
+-- and a place", and a second number; "An acceptance gains a third count".
 use Prim.Native.Nat.{ℕ, _/_}
 use mathlib.Core.Bool.{Bool, not}
 use lib.ListN.{length}
@@ -11,13 +11,15 @@ use Rattle.schema.specs.FirstWalk.{firstWalk, FirstWalk·computes}
 use Rattle.rules.specs.Walk.{Walk}
 use Rattle.rules.specs.Header.{secondWalk, Header·computes}
 
--- "nodes in all graphs, and the largest number of names visible together at any moment of the walk"
+-- "nodes in all graphs, and the largest number of names visible together at any moment of the walk"; "nonempty fields that the
+-- second walk tests for 21 and that are not identifiers"
 pub record Counts : Type 0 where
   pub nodes : ℕ
   pub names : ℕ
+  pub odd : ℕ
 
 unfoldable pub counts : Walk → Counts
-counts w = record { nodes = w .nodes; names = w .most }
+counts w = record { nodes = w .nodes; names = w .most; odd = w .odd }
 
 -- "Raise the size in refusal 7 from 67,108,864 to 2,147,483,647 bytes."
 unfoldable pub LARGEST : ℕ

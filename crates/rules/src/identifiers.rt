@@ -1,7 +1,11 @@
 // "A name is a C90 identifier: a letter or underscore, then letters, digits, underscores, ASCII only, keywords allowed".
+ghost use Prim.Native.Nat.{_≤_};
 ghost use mathlib.Core.Path.{_≡_};
-ghost use mathlib.Core.Bool.{_||_};
+ghost use mathlib.Core.Bool.{_||_, _&&_};
+ghost use lib.ListN.{length, drop};
+ghost use lib.Dec.{leb};
 ghost use Rattle.rules.specs.Identifier.{isLetter, isDigit, identifier};
+ghost use Rattle.rules.specs.Utf8.{wellFormed};
 
 // The underscore counts as a letter.
 fn is_letter(b: u8) -> bool
@@ -40,21 +44,24 @@ fn is_identifier_byte(b: u8) -> bool
     is_digit(b)
 }
 
-pub fn is_identifier(name: &[u8]) -> bool
-    ensures { λ r. ⌜ r ≡ identifier (now (name .entry)) ⌝ }
+// How many bytes at the start an identifier could begin with. They are ASCII, so that a test for UTF-8 may go on behind them.
+pub(crate) fn identifier_part(name: &[u8]) -> usize
+    ensures { λ r. ⌜ r ≤ length (now (name .entry)) ⌝ }
+    ensures { λ r. ⌜ identifier (now (name .entry)) ≡ (leb 1 r && leb (length (now (name .entry))) r) ⌝ }
+    ensures { λ r. ⌜ wellFormed (drop r (now (name .entry))) ≡ wellFormed (now (name .entry)) ⌝ }
 {
     if name.len() == 0 {
-        return false;
+        return 0;
     }
     if !is_letter(name[0]) {
-        return false;
+        return 0;
     }
     let mut i = 1;
     while i < name.len() {
         if !is_identifier_byte(name[i]) {
-            return false;
+            return i;
         }
         i += 1;
     }
-    true
+    i
 }

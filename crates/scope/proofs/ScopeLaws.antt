@@ -168,16 +168,16 @@ module _ (model : Bytes) (cells : List ℕ) (p : Progress) (f : Field) (x : Byte
 
     module _ (d : Direct model f) (later : List ℕ) (el : later ≡ stored cells (p .used) (f .place) (f .next - f .start)) (m : ℕ)
         (em : m ≡ max (p .most) (p .used + 1)) (h : p .used < room (length cells)) where
-      pushed : stepSays model later (step.Went (record { used = p .used + 1; nodes = p .nodes; most = m })) ≡ pass New
+      pushed : stepSays model later (step.Went (record { used = p .used + 1; nodes = p .nodes; most = m; odd = p .odd })) ≡ pass New
       unfolding stepSays withName walkIn
       pushed =
-          ap (λ (l : List ℕ). pass (record { scope = scopeIn model l (p .used + 1); nodes = p .nodes; most = m })) el
-          ∙ ap (λ (s : List Name). pass (record { scope = s; nodes = p .nodes; most = m }))
+          ap (λ (l : List ℕ). pass (record { scope = scopeIn model l (p .used + 1); nodes = p .nodes; most = m; odd = p .odd })) el
+          ∙ ap (λ (s : List Name). pass (record { scope = s; nodes = p .nodes; most = m; odd = p .odd }))
           (scope-push model cells (p .used) (f .place) (f .next - f .start) h ∙ ap (λ (n : Name). n ∷ scopeIn model cells (p .used)) (name-direct model f d))
-          ∙ ap (λ (n : ℕ). pass (record { scope = nameIn model f ∷ scopeIn model cells (p .used); nodes = p .nodes; most = n }))
+          ∙ ap (λ (n : ℕ). pass (record { scope = nameIn model f ∷ scopeIn model cells (p .used); nodes = p .nodes; most = n; odd = p .odd }))
           (em ∙ ap (λ (n : ℕ). max (p .most) (n + 1)) (sym (scope-length model cells (p .used))))
 
-      pub define-new : stepSays model later (step.Went (record { used = p .used + 1; nodes = p .nodes; most = m })) ≡ Defining
+      pub define-new : stepSays model later (step.Went (record { used = p .used + 1; nodes = p .nodes; most = m; odd = p .odd })) ≡ Defining
       unfolding _>>_ refuse_at:_when:_
       define-new = pushed ∙ sym (rw (lt-leb _ _ h) at missing)
 

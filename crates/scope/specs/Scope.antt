@@ -20,6 +20,8 @@ use Rattle.rules.specs.Walk.{Walk, visible}
 use Rattle.rules.specs.Verdict.{WIDTH}
 use Rattle.values.specs.declared.Ruling.{Ruling}
 use Rattle.values.specs.declared.Ruling.the-variants as ruling
+use Rattle.values.specs.declared.tallies.Tally.{Tally}
+use Rattle.values.specs.declared.tallies.Tally.the-variants as tally
 use Rattle.scope.specs.declared.scopes.Progress.{Progress}
 use Rattle.scope.specs.declared.scopes.Step.{Step}
 use Rattle.scope.specs.declared.scopes.Step.the-variants as step
@@ -62,7 +64,7 @@ module _ (model : Bytes) where
 
   -- The walk that has come so far, with these cells.
   unfoldable pub walkIn : (cells : List ℕ) → Progress → Walk
-  walkIn cells p = record { scope = scopeIn cells (p .used); nodes = p .nodes; most = p .most }
+  walkIn cells p = record { scope = scopeIn cells (p .used); nodes = p .nodes; most = p .most; odd = p .odd }
 
   -- What an answer says, with the cells as they are after it.
   unfoldable pub stepSays : (cells : List ℕ) → Step → Judged Walk
@@ -74,9 +76,22 @@ unfoldable pub standing : Progress → Ruling → Step
 standing p ruling.Kept = step.Went p
 standing p (ruling.Refused r) = step.Refused r
 
+-- So many odd names more.
+unfoldable pub withOdd : Progress → ℕ → Progress
+withOdd p k = record { used = p .used; nodes = p .nodes; most = p .most; odd = p .odd + k }
+
+-- The step of a rule that tests names and adds none.
+unfoldable pub counting : Progress → Tally → Step
+counting p (tally.Counted k) = step.Went (withOdd p k)
+counting p (tally.Refused r) = step.Refused r
+
+-- There is room in 64 bits to count every one of these names.
+unfoldable pub Countable : Progress → List Bytes → Type 0
+Countable p names = p .odd + length names < 2 ^ 64
+
 -- After a nested graph: the names are those before it, the counts are those with it.
 unfoldable pub left : (before after : Progress) → Progress
-left before after = record { used = before .used; nodes = after .nodes; most = after .most }
+left before after = record { used = before .used; nodes = after .nodes; most = after .most; odd = after .odd }
 
 -- Names are added, and none is taken away.
 unfoldable pub grows : Progress → Step → Type 0

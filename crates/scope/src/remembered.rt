@@ -153,5 +153,6 @@ pub fn define(
         used: more,
         nodes: p.nodes,
         most: max(p.most, more),
+        odd: p.odd,
     })
 }

@@ -10,10 +10,12 @@ ghost use Rattle.varint.specs.Bytes.{Bytes};
 ghost use Rattle.varint.specs.Encoding.{encode};
 ghost use Rattle.wire.specs.Encoding.{contentsAt};
 ghost use Rattle.rules.specs.Verdict.{WIDTH, room};
-ghost use Rattle.scope.specs.Scope.{placeIn, lengthIn, stored, firstIn, stepSays, standing, left, grows};
+ghost use Rattle.scope.specs.Scope.{placeIn, lengthIn, stored, firstIn, stepSays, standing, withOdd, counting, left, grows};
+ghost use Rattle.values.specs.Answers.{Addable};
 ghost use Rattle.scope.specs.declared.scopes.Progress.{Progress};
 use index::Found;
 use values::Ruling;
+use values::Tally;
 use varint::Refusal;
 
 // How many cells a record takes.
@@ -22,11 +24,13 @@ const WIDTH: usize = 2;
 // How many cells a page of memory has.
 const PAGE: usize = 1024;
 
-// How far the second walk has come: how many records are used, the nodes so far, and the most names visible together so far.
+// How far the second walk has come: how many records are used, the nodes so far, the most names visible together so far, and the odd
+// names so far.
 pub struct Progress {
     pub used: usize,
     pub nodes: u64,
     pub most: usize,
+    pub odd: u64,
 }
 
 // How far it comes with one rule more, or why that is broken.
@@ -225,6 +229,30 @@ pub fn standing(p: Progress, ruling: Ruling) -> Step
     }
 }
 
+// So many odd names more.
+pub fn with_odd(p: Progress, odd: u64) -> Progress
+    requires { ⌜ p .odd + odd < 2 ^ 64 ⌝ }
+    ensures { λ r. ⌜ r ≡ withOdd p odd ⌝ }
+{
+    Progress {
+        used: p.used,
+        nodes: p.nodes,
+        most: p.most,
+        odd: p.odd + odd,
+    }
+}
+
+// A rule that tests names and adds none.
+pub fn counting(p: Progress, t: Tally) -> Step
+    requires { ⌜ Addable (p .odd) t ⌝ }
+    ensures { λ r. ⌜ r ≡ counting p t ⌝ }
+{
+    match t {
+        Tally::Refused(r) => Step::Refused(r),
+        Tally::Counted(odd) => Step::Went(with_odd(p, odd)),
+    }
+}
+
 // "Their names vanish when the graph ends": the walk after a nested graph, where it was `before`.
 pub fn leaving(before: Progress, after: Progress) -> Progress
     ensures { λ r. ⌜ r ≡ left before after ⌝ }
@@ -233,5 +261,6 @@ pub fn leaving(before: Progress, after: Progress) -> Progress
         used: before.used,
         nodes: after.nodes,
         most: after.most,
+        odd: after.odd,
     }
 }

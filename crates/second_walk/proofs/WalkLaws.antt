@@ -28,9 +28,11 @@ use Rattle.schema.proofs.Opened.{walked-inner, walked-whole, model-graph}
 use Rattle.schema.specs.Answers.{silent}
 use Rattle.rules.specs.Walk.{Walk, start}
 use Rattle.rules.specs.Graph.{graph}
+use Rattle.rules.specs.Count.{namesIn}
+use Rattle.rules.proofs.NamesFew.{names-few}
 use Rattle.rules.specs.Header.{header, secondWalkTo, secondWalk}
 use Rattle.values.specs.Answers.{rulingSays}
-use Rattle.scope.specs.Scope.{scopeIn, walkIn, stepSays, standing, Enters}
+use Rattle.scope.specs.Scope.{scopeIn, walkIn, stepSays, standing, Enters, Countable}
 use Rattle.messages.specs.Again.{graphAgain}
 use Rattle.values.specs.declared.Ruling.{Ruling}
 use Rattle.values.specs.declared.Ruling.the-variants as ruling
@@ -45,7 +47,7 @@ use Rattle.second_walk.proofs.AgainLaws.{graph-again}
 
 -- nothing is visible and nothing is counted before the main graph
 abbrev pub Outset : Progress
-Outset = record { used = 0; nodes = 0; most = 0 }
+Outset = record { used = 0; nodes = 0; most = 0; odd = 0 }
 
 module _ (model list : Bytes) (full : ℕ → Bool) where
   abbrev Head : Judged (List Bytes)
@@ -80,6 +82,11 @@ module _ (model list : Bytes) (full : ℕ → Bool) where
       walk-found {g} u cells =
           sym (graph-again model full 8 (record { imports = passed .0; main = true }) (header-imports model list (passed .0) (passed .1)) start g)
           ∙ mained (found model Model·graph m a read u)
+
+-- there is room to count all its names
+pub main-countable : (model : Bytes) (g : Field) → Enters model Graph Outset g → Countable Outset (namesIn model 8 true g)
+unfolding Countable
+main-countable model g n = let h = names-few model true g (n .tagged) (n .ends) (n .walked .inside) (n .short) in omega arith
 
 -- the walk may go into the main graph
 pub main-enters : (model : Bytes) → length model < 2 ^ 32 → firstWalk model ≡ pass tt → {m : Field} → m ≡ whole model → (a : Sought)

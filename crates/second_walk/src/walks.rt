@@ -63,6 +63,7 @@ pub fn second_walk(
         used: 0,
         nodes: 0,
         most: 0,
+        odd: 0,
     };
     let o = model_outline(model);
     let heading = head(model, list, extra, ix, o);

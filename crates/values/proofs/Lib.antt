@@ -1,4 +1,5 @@
 pub mod RulingLaws
-pub mod TypeLaws
+pub mod TallyLaws
 pub mod NameLaws
+pub mod TypeLaws
 pub mod CarrierLaws

@@ -3,15 +3,20 @@ mod carriers;
 mod names;
 pub mod numbers;
 mod rulings;
+mod tallies;
 mod types;
 
 pub use carriers::carrier_of;
 pub use carriers::is_bad_value;
 pub use carriers::is_body;
 pub use names::Naming;
-pub use names::misnaming;
 pub use names::read_name;
+pub use names::tally_of;
 pub use rulings::refused;
+pub use tallies::Tally;
+pub use tallies::adding;
+pub use tallies::tested;
+pub use tallies::uncounted;
 pub use types::is_element;
 pub use types::main_type;
 use varint::Refusal;
@@ -46,7 +51,7 @@ impl Ruling {
 
     pub const GRAPH_NAME_EMPTY: u8 = 20;
 
-    pub const NOT_IDENTIFIER: u8 = 21;
+    pub const NOT_UTF8: u8 = 21;
 
     pub const NAME_EMPTY: u8 = 22;
 

@@ -2,22 +2,22 @@
 ghost use mathlib.Core.Path.{_≡_};
 ghost use Rattle.varint.specs.Outcome.{refused};
 ghost use Rattle.wire.specs.Message.{message};
-ghost use Rattle.schema.specs.Answers.{silent};
-ghost use Rattle.values.specs.Answers.{rulingSays, namingSays, nameField};
-use crate::Ruling;
-use rules::is_identifier;
+ghost use Rattle.rules.specs.Walk.{Walk};
+ghost use Rattle.values.specs.Answers.{namingSays, nameField, tallyOf};
+use crate::tallies::Tally;
+use crate::tallies::tested;
 use varint::Refusal;
 use wire::Field;
 use wire::Sought;
 
-// The field that holds a name which may stand, or why it may not.
+// The field that holds a name which may stand, with 1 where it is odd and 0 where it is not; or why it may not.
 pub enum Naming {
-    Named(Field),
+    Named(Field, u64),
     Refused(Refusal),
 }
 
 fn misnamed(number: u8, place: usize) -> Naming
-    ensures { λ r. ⌜ namingSays r ≡ refused number place ⌝ }
+    ensures { λ r. ⌜ ((w : Walk) → namingSays w r ≡ refused number place) ⌝ }
 {
     Naming::Refused(Refusal {
         number: number,
@@ -26,9 +26,9 @@ fn misnamed(number: u8, place: usize) -> Naming
     })
 }
 
-// A message's name, which may not be empty, refusal `empty`, and must be an identifier: 21.
+// A message's name, which may not be empty, refusal `empty`, and is tested: 21.
 pub fn read_name(model: &[u8], m: Field, number: u64, empty: u8) -> Naming
-    ensures { λ r. ⌜ namingSays r ≡ nameField (now (model .entry)) empty number (message (now (model .entry)) m) ⌝ }
+    ensures { λ r. ⌜ ((w : Walk) → namingSays w r ≡ nameField (now (model .entry)) empty number w (message (now (model .entry)) m)) ⌝ }
 {
     let Sought::Found(name, _) = m.first_of(model, number) else {
         return misnamed(empty, m.place);
@@ -37,18 +37,18 @@ pub fn read_name(model: &[u8], m: Field, number: u64, empty: u8) -> Naming
     if text.len() == 0 {
         return misnamed(empty, name.place);
     }
-    if !is_identifier(text) {
-        return misnamed(Ruling::NOT_IDENTIFIER, name.place);
+    match tested(text, name.place) {
+        Tally::Refused(r) => Naming::Refused(r),
+        Tally::Counted(odd) => Naming::Named(name, odd),
     }
-    Naming::Named(name)
 }
 
-// The ruling on a name that may not stand.
-pub fn misnaming(n: Naming) -> Ruling
-    ensures { λ r. ⌜ rulingSays r ≡ silent (namingSays n) ⌝ }
+// What is counted of a name, or why it may not stand.
+pub fn tally_of(n: Naming) -> Tally
+    ensures { λ r. ⌜ r ≡ tallyOf n ⌝ }
 {
     match n {
-        Naming::Refused(r) => Ruling::Refused(r),
-        Naming::Named(_) => Ruling::Kept,
+        Naming::Refused(r) => Tally::Refused(r),
+        Naming::Named(_, odd) => Tally::Counted(odd),
     }
 }

@@ -146,6 +146,13 @@ module _ (s : Bytes) (number end : ℕ) where
             past = at-next ∙ ap (λ (y : Field). y .next) (sym x);
           }
 
+  -- what a search found, from a cursor on
+  module _ {c : Cursor} (ends : c .end ≡ end) {r : Sought} (read : soughtSays r ≡ soughtIn s number (c .end) (c .at)) {f : Field} {next : Cursor}
+      (e : r ≡ sought.Found f next) where
+    pub found-onward : Onward (c .at) f next
+    unfolding soughtSays
+    found-onward = all-some (c .at) (says soughtSays (rw ends at read) e)
+
 -- a loop that has come to the state `t` and the cursor `c`, where the whole of it answers `o`
 pub record Along {S : Type 0} (s : Bytes) (number end : ℕ) (step : S → Field → Judged S) (o : Judged S) (t : S) (c : Cursor) : Type 0 where
   pub ends : c .end ≡ end
@@ -170,8 +177,7 @@ module _ {S : Type 0} {s : Bytes} {number end : ℕ} {step : S → Field → Jud
 
     module _ {f : Field} {next : Cursor} (e : r ≡ sought.Found f next) where
       went : Onward s number end (c .at) f next
-      unfolding soughtSays
-      went = all-some s number end (c .at) (says soughtSays (rw (q .ends) at read) e)
+      went = found-onward s number end (q .ends) read e
 
       pub along-fails : {x : Refusal} → step t f ≡ fail x → o ≡ fail x
       unfolding each _>>=_

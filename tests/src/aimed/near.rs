@@ -2,7 +2,7 @@
 
 use super::parts::*;
 use super::{accepted, refused, twice};
-use crate::checker::Verdict;
+use crate::checker::{Counts, Verdict};
 use crate::models::lists::{self, Entry};
 use crate::models::proto::Tree;
 use crate::rows::Row;
@@ -48,7 +48,7 @@ fn of_domains(one: &str, other: &str) -> Vec<Row> {
         Row { name: name.into(), model: importing(imports, used), list, cells: 1, answer }
     };
     let fits = |name: &str, imports: &[&str]| {
-        answer(name, imports, &[other, one], &all, Verdict::Accepted { nodes: 2, names: 0 })
+        answer(name, imports, &[other, one], &all, Verdict::Accepted(Counts { nodes: 2, names: 0, odd: 0 }))
     };
     let refused = |name: &str, imports: &[&str], listed: &[&str], number: u64, place: usize| {
         answer(name, imports, &[], listed, Verdict::refused(number, place as u64))

@@ -88,7 +88,7 @@ fn expected(files: &Files) -> String {
 fn cases() -> Vec<Files> {
     let mut cases = absences();
     cases.extend(sizes());
-    for row in rows::document().into_iter().chain(rows::by_hand()).chain(rows::wide()) {
+    for row in rows::document().into_iter().chain(rows::by_hand()).chain(rows::names()).chain(rows::wide()) {
         cases.push(Files { label: row.name, model: Some(row.model), list: Some(row.list) });
     }
     for number in 0..CASES {
@@ -123,7 +123,7 @@ fn sizes() -> Vec<Files> {
 /// Document 01's first sample that is accepted.
 fn sound() -> Vec<u8> {
     let rows = rows::document();
-    let row = rows.into_iter().find(|row| matches!(row.answer, Verdict::Accepted { .. }));
+    let row = rows.into_iter().find(|row| matches!(row.answer, Verdict::Accepted(_)));
     row.map(|row| row.model).unwrap_or_default()
 }
 

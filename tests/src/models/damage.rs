@@ -43,6 +43,6 @@ fn part_end(rng: &mut Rng, at: usize, length: usize) -> usize {
 /// Bytes that often read as tags and short lengths: tags of the first fields, small numbers, letters.
 pub fn likely_bytes(rng: &mut Rng, count: usize) -> Vec<u8> {
     const LIKELY: &[u8] =
-        b"\x08\x0a\x10\x12\x1a\x22\x2a\x3a\x42\x5a\x62\x6a\x00\x01\x02\x03\x04\x05\x07\x0d\x80\xffagw";
+        b"\x08\x0a\x10\x12\x1a\x22\x2a\x3a\x42\x5a\x62\x6a\x00\x01\x02\x03\x04\x05\x07\x0d\x80\xff\xc3\xa9agw";
     (0..count).map(|_| *rng.pick(LIKELY)).collect()
 }

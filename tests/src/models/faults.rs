@@ -92,13 +92,6 @@ fn empty(tree: &mut Tree, rng: &mut Rng, number: u32) -> bool {
     true
 }
 
-/// Bytes that are no identifier.
-fn bad_name(rng: &mut Rng) -> Vec<u8> {
-    const BAD: [&[u8]; 12] =
-        [b"1", b"a-b", b"a ", b"\x00", b"a\x00", b"\xc3\xa9", b"a.b", b"a/b", b"9a", b"a\xff", b"[a", b"a`"];
-    rng.pick(&BAD).to_vec()
-}
-
 /// A node that keeps every rule but perhaps those of its names: it reads `input` and binds `output`.
 fn plain_node(domain: Option<Vec<u8>>, input: Option<&[u8]>, output: &[u8]) -> Tree {
     let node = Tree::new(Message::Node).text(2, output).text(4, b"X");

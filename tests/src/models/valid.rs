@@ -1,19 +1,21 @@
 //! Models that keep every rule of document 01, made with their true counts.
 
 use super::lists::{self, alias, Entry};
+use super::names::some_name;
 use super::proto::{Item, Tree, Value};
 use super::wild;
 use crate::oplist;
+use crate::parts::identifier;
 use crate::rng::Rng;
 use crate::schema::{Message, DEEPEST_GRAPH};
+use crate::verdict::Counts;
 
 /// A sound model, a sound list that serves it, and the counts that its acceptance must report.
 #[derive(Clone, Debug)]
 pub struct Made {
     pub tree: Tree,
     pub entries: Vec<Entry>,
-    pub nodes: u64,
-    pub names: u64,
+    pub counts: Counts,
 }
 
 pub fn valid(rng: &mut Rng) -> Made {
@@ -30,7 +32,7 @@ pub fn of_size(rng: &mut Rng, room: usize) -> Made {
         tree = tree.tree(8, import);
     }
     tree = tree.tree(7, maker.graph(1));
-    let (nodes, names) = (maker.nodes, maker.names as u64);
+    let counts = Counts { nodes: maker.nodes, names: maker.names as u64, odd: maker.odd };
     wild::sprinkle(&mut tree, rng);
     if rng.chance(1, 2) {
         tree.interleave(rng);
@@ -38,22 +40,7 @@ pub fn of_size(rng: &mut Rng, room: usize) -> Made {
     if rng.chance(1, 4) {
         tree.items.insert(0, wild::like_a_name(rng));
     }
-    Made { tree, entries, nodes, names }
-}
-
-/// Mostly short names of few letters, so that names meet again in sibling bodies and are prefixes of each other.
-pub fn some_name(rng: &mut Rng) -> Vec<u8> {
-    match rng.below(30) {
-        0 => b"int".to_vec(),
-        1 => [b'n'].repeat(126 + rng.below(4)),
-        _ => {
-            let mut name = vec![*rng.pick(b"aw_Z")];
-            for _ in 0..rng.below(3) {
-                name.push(*rng.pick(b"w1_9Z"));
-            }
-            name
-        }
-    }
+    Made { tree, entries, counts }
 }
 
 struct Maker<'r> {
@@ -63,6 +50,7 @@ struct Maker<'r> {
     visible: Vec<Vec<u8>>,
     nodes: u64,
     names: usize,
+    odd: u64,
     /// How many nodes may still be made.
     room: usize,
     /// Out of ten attributes, how many hold bodies.
@@ -72,7 +60,7 @@ struct Maker<'r> {
 impl<'r> Maker<'r> {
     fn new(rng: &'r mut Rng, room: usize) -> Maker<'r> {
         let bodies = *rng.pick(&[0, 3, 6, 9]);
-        Maker { rng, domains: Vec::new(), visible: Vec::new(), nodes: 0, names: 0, room, bodies }
+        Maker { rng, domains: Vec::new(), visible: Vec::new(), nodes: 0, names: 0, odd: 0, room, bodies }
     }
 
     fn imports(&mut self, entries: &[Entry]) -> Vec<Tree> {
@@ -103,6 +91,18 @@ impl<'r> Maker<'r> {
         }
     }
 
+    /// A name on its way into a field that is tested for 21.
+    fn tested(&mut self, name: Vec<u8>) -> Vec<u8> {
+        self.odd += u64::from(!name.is_empty() && !identifier(&name));
+        name
+    }
+
+    /// Some name there, whatever else bears it.
+    fn any(&mut self) -> Vec<u8> {
+        let name = some_name(self.rng);
+        self.tested(name)
+    }
+
     fn fresh(&mut self) -> Vec<u8> {
         let mut name = some_name(self.rng);
         while self.visible.contains(&name) {
@@ -116,7 +116,7 @@ impl<'r> Maker<'r> {
     fn graph(&mut self, depth: u32) -> Tree {
         let main = depth == 1;
         let outer = self.visible.len();
-        let mut graph = Tree::new(Message::Graph).text(2, some_name(self.rng));
+        let mut graph = Tree::new(Message::Graph).text(2, self.any());
         for _ in 0..self.rng.below(3) {
             let name = self.fresh();
             graph = graph.tree(11, self.value_info(name, main));
@@ -161,8 +161,14 @@ impl<'r> Maker<'r> {
     }
 
     fn value_info(&mut self, name: Vec<u8>, judged: bool) -> Tree {
-        let info = Tree::new(Message::ValueInfo).text(1, name);
-        if judged || self.rng.chance(1, 4) {
+        let info = Tree::new(Message::ValueInfo).text(1, self.tested(name));
+        if judged {
+            let kind = good_type(self.rng);
+            for name in dim_params(&kind) {
+                self.tested(name);
+            }
+            info.tree(2, kind)
+        } else if self.rng.chance(1, 4) {
             info.tree(2, good_type(self.rng))
         } else if self.rng.chance(1, 3) {
             // A nested type is opened by the first walk and judged by no rule of the second.
@@ -175,7 +181,8 @@ impl<'r> Maker<'r> {
     fn tensor(&mut self, name: Vec<u8>) -> Tree {
         let data_type = 1 + self.rng.below(23) as u64;
         let length = if self.rng.chance(1, 400) { 20_000 } else { self.rng.below(4) };
-        Tree::new(Message::Tensor).number(1, 2).number(2, data_type).text(8, name).text(9, vec![0x7f; length])
+        let tensor = Tree::new(Message::Tensor).number(1, 2).number(2, data_type);
+        tensor.text(8, self.tested(name)).text(9, vec![0x7f; length])
     }
 
     fn node(&mut self, depth: u32, node_names: &mut Vec<Vec<u8>>) -> Tree {
@@ -185,17 +192,18 @@ impl<'r> Maker<'r> {
         for _ in 0..self.rng.below(3) {
             let left_out = self.visible.is_empty() || self.rng.chance(1, 6);
             let name = if left_out { Vec::new() } else { self.rng.pick(&self.visible).clone() };
-            node = node.text(1, name);
+            node = node.text(1, self.tested(name));
         }
         let attributes = self.attributes(depth);
         for _ in 0..1 + self.rng.below(2) {
             let name = if self.rng.chance(1, 8) { Vec::new() } else { self.fresh() };
-            node = node.text(2, name);
+            node = node.text(2, self.tested(name));
         }
         if self.rng.chance(1, 3) {
-            node = node.text(3, unused(self.rng, node_names, true));
+            let name = unused(self.rng, node_names, true);
+            node = node.text(3, self.tested(name));
         }
-        node = node.text(4, some_name(self.rng));
+        node = node.text(4, self.any());
         for attribute in attributes {
             node = node.tree(5, attribute);
         }
@@ -219,7 +227,7 @@ impl<'r> Maker<'r> {
             if deeper && self.rng.chance(self.bodies, 10) { *self.rng.pick(&[5, 10]) } else { 1 + self.rng.below(14) };
         // A type 5 needs its graph, so at the greatest depth another type stands in.
         let kind = if kind == 5 && depth >= DEEPEST_GRAPH { 7 } else { kind };
-        let mut attribute = Tree::new(Message::Attribute).text(1, name).number(20, kind as u64);
+        let mut attribute = Tree::new(Message::Attribute).text(1, self.tested(name)).number(20, kind as u64);
         if self.rng.chance(1, 8) {
             attribute = attribute.text(21, b"");
         }
@@ -278,6 +286,12 @@ fn list_element(rng: &mut Rng, kind: usize) -> Option<Item> {
         _ => return None,
     };
     Some(Item::new(number, value))
+}
+
+/// The variables of a type.
+fn dim_params(kind: &Tree) -> Vec<Vec<u8>> {
+    let shapes = kind.children(1).flat_map(|tensor| tensor.children(2));
+    shapes.flat_map(|shape| shape.children(1)).flat_map(|dim| dim.all_bytes(2)).collect()
 }
 
 /// A type that the main graph's inputs and outputs may have.

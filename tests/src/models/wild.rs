@@ -1,7 +1,7 @@
 //! Trees that keep the rows of document 01 and no rule of its second walk, and fields that no row names.
 
+use super::names::{malformed, some_name};
 use super::proto::{Item, Tree, Value};
-use super::valid::some_name;
 use crate::rng::Rng;
 use crate::schema::{row, rows, Form, Message, Often};
 
@@ -33,7 +33,11 @@ fn value(rng: &mut Rng, form: Form, depth: usize) -> Option<Value> {
     Some(match form {
         Form::Varint | Form::PackableVarint => Value::Varint(*rng.pick(&EDGES)),
         Form::Four | Form::PackableFour => Value::Four([1, 2, 3, 4]),
-        Form::Bytes => Value::Bytes(if rng.chance(1, 4) { Vec::new() } else { some_name(rng) }),
+        Form::Bytes => Value::Bytes(match rng.below(8) {
+            0 | 1 => Vec::new(),
+            2 => malformed(rng),
+            _ => some_name(rng),
+        }),
         Form::Open(inner) if depth > 0 => Value::Tree(tree(rng, inner, depth - 1)),
         Form::Open(_) => return None,
     })

@@ -1,6 +1,6 @@
 //! Rows worked out by hand from document 01 and the readings of its open points.
 
-use super::{accepted, domains, hex, lengths, padded, refused, row, twice, versions, Row, M0};
+use super::{accepted, domains, hex, lengths, odd, padded, refused, row, twice, versions, with_odd, Row, M0};
 use crate::checker::Verdict;
 use crate::models::lists::L;
 
@@ -23,6 +23,9 @@ pub fn by_hand() -> Vec<Row> {
         };
         rows.push(row(name, in_graph(graph), &L, cells, answer));
     }
+    for (name, graph, cells, (nodes, names, odd)) in odd::GRAPHS {
+        rows.push(row(name, in_graph(graph), &L, *cells, with_odd(*nodes, *names, *odd)));
+    }
     for (name, model, number, place) in MODELS.iter().chain(padded::MODELS) {
         rows.push(row(name, hex(model), &L, 9, refused(*number, *place)));
     }
@@ -40,9 +43,9 @@ pub(super) type GraphRow = (&'static str, &'static str, usize, (u64, u64, u64));
 const GRAPHS: &[GraphRow] = &[
     ("20, absent", "", 0, (20, 6, 0)),
     ("20, present and empty", "12 00", 0, (20, 8, 0)),
-    ("21 of a graph name", "12 01 39", 0, (21, 8, 0)),
+    ("21 of a graph name", "12 01 80", 0, (21, 8, 0)),
     ("16", "12 01 67 7A 00 7A 00", 0, (16, 11, 0)),
-    ("21 of an input", "12 01 67 5A 03 0A 01 39", 9, (21, 13, 0)),
+    ("21 of an input", "12 01 67 5A 03 0A 01 FF", 9, (21, 13, 0)),
     ("22, absent", "12 01 67 5A 00", 9, (22, 11, 0)),
     ("22, present and empty", "12 01 67 5A 02 0A 00", 9, (22, 13, 0)),
     ("24, no type", "12 01 67 5A 03 0A 01 61", 2, (24, 11, 0)),
@@ -69,7 +72,7 @@ const GRAPHS: &[GraphRow] = &[
     ("29", "12 01 67 0A 08 1A 01 6E 12 00 22 01 58 0A 08 1A 01 6E 12 00 22 01 58", 0, (29, 23, 0)),
     ("34", "12 01 67 0A 03 22 01 58", 0, (34, 11, 0)),
     ("one empty output is enough", "12 01 67 0A 05 12 00 22 01 58", 0, (0, 1, 0)),
-    ("23 of one output before 21 of the next", "12 01 67 0A 0C 12 01 61 12 01 61 12 01 39 22 01 58", 9, (23, 16, 13)),
+    ("23 of one output before 21 of the next", "12 01 67 0A 0C 12 01 61 12 01 61 12 01 80 22 01 58", 9, (23, 16, 13)),
     ("w does not serve w1", "12 01 67 0A 06 12 01 77 22 01 58 0A 07 0A 02 77 31 22 01 58", 9, (30, 21, 0)),
     ("w1 does not serve w", "12 01 67 0A 07 12 02 77 31 22 01 58 0A 06 0A 01 77 22 01 58", 9, (30, 22, 0)),
     ("a node before the input that it reads", "0A 09 0A 01 61 12 01 62 22 01 58 12 01 67 5A 0B 0A 01 61 12 06 0A 04 08 01 12 00", 4, (0, 1, 2)),
@@ -83,13 +86,24 @@ const GRAPHS: &[GraphRow] = &[
     ("24 of an output", "12 01 67 0A 06 12 01 61 22 01 58 62 03 0A 01 61", 9, (24, 19, 0)),
     // The order of the rules in one message: two or more are broken, the first one is told.
     ("27 before 28", "12 01 67 0A 06 12 01 61 3A 01 78", 9, (27, 11, 0)),
-    ("21 of op_type before 28", "12 01 67 0A 09 12 01 61 22 01 39 3A 01 78", 9, (21, 16, 0)),
-    ("28 before 21 of a node name", "12 01 67 0A 0C 12 01 61 22 01 58 3A 01 78 1A 01 39", 9, (28, 19, 0)),
-    ("21 of a node name before 30", "12 01 67 0A 0C 0A 01 7A 12 01 61 22 01 58 1A 01 39", 9, (21, 22, 0)),
+    ("21 of op_type before 28", "12 01 67 0A 09 12 01 61 22 01 C3 3A 01 78", 9, (21, 16, 0)),
+    ("28 before 21 of a node name", "12 01 67 0A 0C 12 01 61 22 01 58 3A 01 78 1A 01 80", 9, (28, 19, 0)),
+    ("21 of a node name before 30", "12 01 67 0A 0C 0A 01 7A 12 01 61 22 01 58 1A 01 80", 9, (21, 22, 0)),
     ("30 before 22 of an attribute", "12 01 67 0A 0B 0A 01 7A 12 01 61 22 01 58 2A 00", 9, (30, 13, 0)),
     ("22 of an attribute before 34", "12 01 67 0A 05 22 01 58 2A 00", 9, (22, 16, 0)),
     ("31 before 33", "12 01 67 0A 17 12 01 61 22 01 58 2A 06 0A 01 6B A0 01 02 2A 07 0A 01 6B AA 01 01 72", 9, (31, 29, 0)),
-    ("21 of a graph name before 16", "12 01 39 7A 00", 9, (21, 8, 0)),
+    ("21 of a graph name before 16", "12 01 80 7A 00", 9, (21, 8, 0)),
+    ("21 of a node input before 30", "12 01 67 0A 09 0A 01 80 12 01 61 22 01 58", 9, (21, 13, 0)),
+    ("30 of one input before 21 of the next", "12 01 67 0A 0C 0A 01 7A 0A 01 80 12 01 61 22 01 58", 9, (30, 13, 0)),
+    ("21 of a node output before 40", "12 01 67 0A 06 12 01 80 22 01 58", 0, (21, 13, 0)),
+    ("21 of an attribute before 31", "12 01 67 0A 16 12 01 61 22 01 58 2A 06 0A 01 80 A0 01 02 2A 06 0A 01 80 A0 01 02", 9, (21, 21, 0)),
+    ("21 of an attribute before 33", "12 01 67 0A 0F 12 01 61 22 01 58 2A 07 0A 01 80 AA 01 01 72", 9, (21, 21, 0)),
+    ("33 of a reference that is not UTF-8", "12 01 67 0A 12 12 01 61 22 01 58 2A 0A 0A 01 6B A0 01 02 AA 01 01 80", 9, (33, 19, 0)),
+    ("21 of a graph output before 35", "12 01 67 62 03 0A 01 80", 9, (21, 13, 0)),
+    ("21 of an input before 24", "12 01 67 5A 03 0A 01 80", 0, (21, 13, 0)),
+    ("38 of a dim before 21 of the next", "12 01 67 5A 1D 0A 01 61 12 18 0A 16 08 01 12 12 0A 0B 08 FF FF FF FF FF FF FF FF FF 01 0A 03 12 01 80", 2, (38, 26, 0)),
+    ("21 of a dim before an empty one", "12 01 67 5A 14 0A 01 61 12 0F 0A 0D 08 01 12 09 0A 03 12 01 80 0A 02 12 00", 2, (21, 26, 0)),
+    ("21, a second dim_param that is empty", "12 01 67 5A 14 0A 01 61 12 0F 0A 0D 08 01 12 09 0A 03 12 01 2F 0A 02 12 00", 2, (21, 31, 0)),
     ("16 before inputs", "12 01 67 5A 00 7A 00", 9, (16, 13, 0)),
     ("inputs before initializers", "12 01 67 2A 00 5A 00", 9, (22, 13, 0)),
     ("initializers before nodes", "12 01 67 0A 00 2A 00", 9, (22, 13, 0)),

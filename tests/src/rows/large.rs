@@ -21,7 +21,8 @@ pub fn large() -> impl Iterator<Item = Row> {
 
 fn sizes() -> Vec<Plan> {
     let zeros = |count| Sparse::default().zeros(count);
-    let all_name = Sparse::default().field(2, zeros(MOST - 18));
+    // The name's first byte is refused, so that no call has to read the others.
+    let all_name = Sparse::default().field(2, Sparse::new([0x80]).zeros(MOST - 19));
     // A length in 32 bits would be that of M1.
     let beyond = Sparse::new(hex(M1)).zeros(1 << 32);
     vec![
@@ -71,7 +72,7 @@ const ENDS: &[GraphRow] = &[
     ("9, a length", "0A 80 00", 2, (9, 3, 0)),
     ("9, a length of ten bytes past the end", "0A 87 80 80 80 80 80 80 80 80 00", 2, (9, 11, 0)),
     ("16", "7A 00", 2, (16, 2, 0)),
-    ("21", "0A 06 12 01 39 22 01 58", 4, (21, 6, 0)),
+    ("21", "0A 06 12 01 80 22 01 58", 4, (21, 6, 0)),
     ("23 of the initializer", "0A 06 12 01 77 22 01 58", 4, (23, 6, 21)),
     ("23 of a node's output", "0A 06 12 01 61 22 01 58 0A 06 12 01 61 22 01 58", 6, (23, 6, MOST as u64 - 14)),
     ("23 of the initializer, by another", "2A 05 42 01 77 10 01", 4, (23, 5, 21)),

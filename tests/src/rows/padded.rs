@@ -7,7 +7,7 @@ use super::by_hand::{GraphRow, ModelRow};
 #[rustfmt::skip]
 pub const GRAPHS: &[GraphRow] = &[
     ("9 before 20, an empty name with a padded length", "12 80 00", 0, (9, 8, 0)),
-    ("9 before 21 of a graph's name", "92 00 01 39", 0, (9, 8, 0)),
+    ("9 before 21 of a graph's name", "92 00 01 80", 0, (9, 8, 0)),
     ("9 of a tag, and of the length behind it", "92 00 81 00 67", 0, (9, 8, 0)),
     ("9 before 16", "12 01 67 FA 00 00", 0, (9, 11, 0)),
     ("9 of an unknown tag of three bytes", "12 01 67 A2 86 00 00 5A 00", 9, (9, 11, 0)),

@@ -2,7 +2,7 @@
 //! up to 2,097,151, and a message's likewise.
 
 use super::large::model;
-use super::{accepted, hex, refused, row, twice, Row};
+use super::{accepted, hex, refused, row, twice, with_odd, Row};
 use crate::checker::Verdict;
 use crate::models::lists::L;
 use crate::models::sparse::Sparse;
@@ -10,6 +10,7 @@ use crate::models::sparse::Sparse;
 pub fn wide() -> Vec<Row> {
     let mut rows: Vec<Row> = NODES.iter().map(|(lengths, place, first)| of_nodes(lengths, *place, *first)).collect();
     rows.extend(DEFAULTS.iter().map(of_defaults));
+    rows.extend(LENGTHS.iter().flat_map(|(length, place)| of_texts(*length, *place)));
     rows.extend((0..MANY).map(one_of_many));
     rows.extend(the_programs());
     rows
@@ -32,16 +33,38 @@ const NODES: &[(&[usize], u64, u64)] = &[
 ];
 
 fn of_nodes(lengths: &[usize], place: u64, first: u64) -> Row {
-    let graph = lengths.iter().fold(named(), |graph, length| graph.field(1, binding(&"n".repeat(*length))));
+    let graph = lengths.iter().fold(named(), |graph, length| graph.field(1, binding("n".repeat(*length))));
     let name = format!("outputs of {lengths:?} bytes");
     row(&name, model(graph).build(), &L, 2 * (lengths.len() - 1), twice(place, first))
+}
+
+/// Lengths of a name, with its place as the output of the first node.
+const LENGTHS: [(usize, u64); 6] = [(4, 13), (127, 15), (128, 15), (129, 15), (16_383, 17), (16_384, 17)];
+
+/// Names of so many bytes, all of one kind of character, and others with a last byte that makes them odd or no UTF-8. A node binds
+/// the name and the next one reads it.
+fn of_texts(length: usize, place: u64) -> Vec<Row> {
+    let mut rows = Vec::new();
+    for (unit, odd) in [("n", 0), ("/", 2), ("é", 2), ("€", 2), ("\u{10ffff}", 2)] {
+        let filled = |bytes: usize| ["n".repeat(bytes % unit.len()), unit.repeat(bytes / unit.len())].concat();
+        let with_last = |byte: u8| [filled(length - 1).as_bytes(), &[byte]].concat();
+        let of = |name: &[u8], answer: Verdict| {
+            let reading = Sparse::default().field(1, Sparse::new(name)).then(hex("12 00 22 01 58"));
+            let graph = named().field(1, binding(name)).field(1, reading);
+            row(&format!("{length} bytes of {unit}"), model(graph).build(), &L, 2, answer)
+        };
+        rows.push(of(filled(length).as_bytes(), with_odd(2, 1, odd)));
+        rows.push(of(&with_last(b'-'), with_odd(2, 1, 2)));
+        rows.push(of(&with_last(0xC3), refused(21, place)));
+    }
+    rows
 }
 
 fn named() -> Sparse {
     Sparse::new(hex("12 01 67"))
 }
 
-fn binding(name: &str) -> Sparse {
+fn binding(name: impl Into<Vec<u8>>) -> Sparse {
     Sparse::default().field(2, Sparse::new(name)).then(hex("22 01 58"))
 }
 
@@ -71,8 +94,8 @@ const MANY: usize = 40;
 /// Nodes of ten bytes from 12 on bind `t00` to `t39`, and the last one binds one of them again.
 fn one_of_many(at: usize) -> Row {
     let name = |at: usize| format!("t{at:02}");
-    let graph = (0..MANY).fold(named(), |graph, other| graph.field(1, binding(&name(other))));
-    let model = model(graph.field(1, binding(&name(at)))).build();
+    let graph = (0..MANY).fold(named(), |graph, other| graph.field(1, binding(name(other))));
+    let model = model(graph.field(1, binding(name(at)))).build();
     row(&format!("the name {at} of {MANY} again"), model, &L, 80, twice(414, 14 + 10 * at as u64))
 }
 

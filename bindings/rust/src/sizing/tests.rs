@@ -31,7 +31,7 @@ fn any_number_of_names() {
     let first = FIRST / CELLS_PER_NAME;
     for count in [0, 1, 100, 3000, 4000, first - 1, first, first + 1, 100_000] {
         let model = outputs(count);
-        let accepted = Accepted { nodes: 1, names: count as u64 };
+        let accepted = Accepted { nodes: 1, names: count as u64, odd: 0 };
         let expected = if count == 0 { Err(34) } else { Ok(accepted) };
         assert_eq!(check(&model, &list()).map_err(|r| r.number), expected, "{count}");
     }
@@ -60,15 +60,15 @@ fn answers_are_the_plain_ones() {
 fn limits_are_kept() {
     let small = outputs(50);
     let cells = |cells| Options { cells, seed: Some(3), ..Options::default() };
-    assert_eq!(under(cells(101), &small), ("accepted nodes 1 names 50".into(), 101));
-    assert_eq!(under(cells(100), &small), ("accepted nodes 1 names 50".into(), 100));
+    assert_eq!(under(cells(101), &small), ("accepted nodes 1 names 50 odd 0".into(), 101));
+    assert_eq!(under(cells(100), &small), ("accepted nodes 1 names 50 odd 0".into(), 100));
     assert_eq!(under(cells(99), &small), (full(&small, 1), 99));
     assert_eq!(under(cells(98), &small), (full(&small, 1), 98));
     assert_eq!(under(cells(97), &small), (full(&small, 2), 97));
     assert_eq!(under(cells(1), &small), (full(&small, 50), 1));
     assert_eq!(under(cells(0), &small), (full(&small, 50), 0));
     let large = outputs(100_000);
-    assert_eq!(under(cells(200_000), &large), ("accepted nodes 1 names 100000".into(), 200_000));
+    assert_eq!(under(cells(200_000), &large), ("accepted nodes 1 names 100000 odd 0".into(), 200_000));
     assert_eq!(under(cells(199_999), &large), (full(&large, 1), 199_999));
 }
 
@@ -77,7 +77,7 @@ fn limits_are_kept() {
 fn memory_is_kept() {
     for (model, count) in [(outputs(50), 50), (outputs(100_000), 100_000)] {
         let memory = |memory| Options { memory, ..Options::default() };
-        assert_eq!(under(memory(40 * count), &model).0, format!("accepted nodes 1 names {count}"));
+        assert_eq!(under(memory(40 * count), &model).0, format!("accepted nodes 1 names {count} odd 0"));
         assert_eq!(under(memory(40 * count - 1), &model), (full(&model, 1), 2 * count - 1));
         assert_eq!(under(memory(40 * (count - 1)), &model), (full(&model, 1), 2 * count - 2));
         assert_eq!(under(memory(0), &model), (full(&model, count), 0));
@@ -176,12 +176,12 @@ fn long_lists() {
     let count = SHORT + 1_000;
     let attributes: Vec<u8> = (0..count).flat_map(attribute).collect();
     let node = part(1, &[b"\x12\x01y\x22\x01X", &attributes[..]].concat());
-    assert_eq!(check(&model(&node), &list()), Ok(Accepted { nodes: 1, names: 1 }));
+    assert_eq!(check(&model(&node), &list()), Ok(Accepted { nodes: 1, names: 1, odd: 0 }));
     let nodes = |output, count| -> Vec<u8> {
         let node = |i| part(1, &[name(0x12, output, i), name(0x1A, 'n', i), b"\x22\x01X".to_vec()].concat());
         (0..count).flat_map(node).collect()
     };
-    let all = Accepted { nodes: count as u64, names: count as u64 };
+    let all = Accepted { nodes: count as u64, names: count as u64, odd: 0 };
     assert_eq!(check(&model(&nodes('v', count)), &list()), Ok(all));
     let twice = [nodes('v', count), nodes('w', 1)].concat();
     assert_eq!(check(&model(&twice), &list()).map_err(|r| r.number), Err(29));
@@ -208,6 +208,7 @@ fn seeds_differ() {
     assert_ne!(random(), random());
     let model = outputs(3000);
     for seed in [0, 1, u64::MAX] {
-        assert_eq!(under(Options { seed: Some(seed), ..Options::default() }, &model).0, "accepted nodes 1 names 3000");
+        let seeded = Options { seed: Some(seed), ..Options::default() };
+        assert_eq!(under(seeded, &model).0, "accepted nodes 1 names 3000 odd 0");
     }
 }

@@ -1,8 +1,9 @@
 //! Faults of value names: 23, 30, 35, and the shortcuts that document 01 warns of.
 
 use super::{main_graph, plain_node, some_domain, some_message, some_part, Fault};
+use crate::models::names::some_name;
 use crate::models::proto::{Item, Tree, Value};
-use crate::models::valid::{good_type, some_name};
+use crate::models::valid::good_type;
 use crate::rng::Rng;
 use crate::schema::Message;
 

@@ -1,6 +1,7 @@
 //! Faults of graphs, nodes, attributes and types, all but those of value names: 16, 20 to 22, 24 to 29, 31 to 34, 37, 38.
 
-use super::{bad_name, empty, some_main_info, some_main_tensor, some_message, some_part, Fault};
+use super::{empty, some_main_info, some_main_tensor, some_message, some_part, Fault};
+use crate::models::names::malformed;
 use crate::models::proto::{Item, Tree, Value};
 use crate::models::valid::good_type;
 use crate::models::wild::EDGES;
@@ -69,14 +70,14 @@ impl Part<'_> {
     }
 
     fn bad(self, rng: &mut Rng, number: u32) -> bool {
-        self.set(number, Value::Bytes(bad_name(rng)))
+        self.set(number, Value::Bytes(malformed(rng)))
     }
 
     fn bad_one_more(self, rng: &mut Rng, number: u32) -> bool {
         let Some(tree) = self.0 else {
             return false;
         };
-        let name = bad_name(rng);
+        let name = malformed(rng);
         tree.insert(rng, Item::new(number, Value::Bytes(name)));
         true
     }
@@ -127,8 +128,8 @@ fn add_dim(tree: &mut Tree, rng: &mut Rng, dim: Tree) -> bool {
 }
 
 fn bad_dim_param(tree: &mut Tree, rng: &mut Rng) -> bool {
-    // A dim_param that is present and empty is no identifier either.
-    let name = if rng.chance(1, 3) { Vec::new() } else { bad_name(rng) };
+    // One that is present and empty is refused too.
+    let name = if rng.chance(1, 3) { Vec::new() } else { malformed(rng) };
     add_dim(tree, rng, Tree::new(Message::Dimension).text(2, name))
 }
 
@@ -225,6 +226,6 @@ fn no_carrier(tree: &mut Tree, rng: &mut Rng) -> bool {
 }
 
 fn reference(tree: &mut Tree, rng: &mut Rng) -> bool {
-    let name: &[u8] = rng.pick::<&[u8]>(&[b"a", b"not an identifier", b"\x00"]);
+    let name: &[u8] = rng.pick::<&[u8]>(&[b"a", b"not an identifier", b"\x00", b"\xff"]);
     of(some_message(tree, rng, Message::Attribute)).set(21, Value::Bytes(name.to_vec()))
 }

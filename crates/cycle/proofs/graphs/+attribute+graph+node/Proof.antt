@@ -21,9 +21,9 @@ pub +attribute+graph+node-spec : {M : Type 1} → statement M
 +attribute+graph+node-spec =
     close μ-attribute μ-graph μ-node (λ t. attribute-lts.spec (attribute-claims t) (attribute-at t) attribute.Post attribute-Inv-loop attribute-μ-loop
     (attribute-attribute-head-requires t)
+    (attribute-counting-requires t)
     (λ c. search needs)
     (λ c. search needs)
-    (λ c κs. search needs)
     (λ c. search needs)
     (attribute-returns t)
     (λ c κs. search needs)
@@ -63,7 +63,7 @@ pub +attribute+graph+node-spec : {M : Type 1} → statement M
     (λ c. search needs)
     (λ c. search needs)
     (graph-graph-outputs-requires t)
-    (λ c κs. search needs)
+    (graph-counting-requires t)
     (graph-same-length-3 t)
     (graph-same-length-4 t)
     (graph-returns-3 t)
@@ -79,9 +79,9 @@ pub +attribute+graph+node-spec : {M : Type 1} → statement M
     (graph-loop-again t))
     (λ t. node-lts.spec (node-claims t) (node-at t) node.Post node-Inv-loop node-μ-loop
     (node-node-rules-requires t)
+    (node-counting-requires t)
     (λ c. search needs)
     (λ c. search needs)
-    (λ c κs. search needs)
     (λ c. search needs)
     (λ c. search needs)
     (node-returns t)

@@ -1,32 +1,31 @@
-use Rattle.values.proofs.NameLaws.{named-some}
-use mathlib.Core.Path.{_∙_}
-use Rattle.values.specs.Answers.{rulingSays}
+use mathlib.Core.Path.{ap, _∙_}
 use Rattle.headers.specs.Earlier.{earlierIn}
-use Rattle.messages.specs.Heads.{attributeRules}
+use Rattle.values.specs.Answers.{tallySays}
+use Rattle.values.proofs.NameLaws.{named-some}
 use Rattle.messages.proofs.AttributeLaws.{attribute-nameless, attribute-twice, attribute-refers, attribute-bad, attribute-good}
 use borrow.Author.Needs.{needs}
 use Rattle.messages.proofs.attributes.attribute_rules.Statement.{statement}
 use Rattle.messages.proofs.attributes.attribute_rules.Tie as tie
 
 returns : tie.Need-returns
-unfolding attributeRules earlierIn
 returns c =
     let c1 = c .before in
     let c3 = c1 .before .before in
-    c .misnaming .ensures ∙ attribute-nameless _ _ _ (c3 .read-name .ensures) (c1 .enum-told .given .1)
+    λ w. ap (tallySays w) (c .tally-of .ensures) ∙ attribute-nameless _ _ _ (c3 .read-name .ensures) w (c1 .enum-told .given .1)
 
 returns-2 : tie.Need-returns-2
-unfolding attributeRules earlierIn
+unfolding earlierIn
 returns-2 c =
     let c1 = c .before in
     let c2 = c1 .before in
     let c3 = c2 .before in
     let c5 = c3 .before .before in
     let c7 = c5 .before .before in
-    c .refused .ensures ∙ attribute-twice _ _ _ (c7 .read-name .ensures) (c5 .naming .given .1) (c3 .text .ensures) (c2 .is-listed .ensures) (c1 .if1 .taken)
+    λ w. c .uncounted .ensures w
+    ∙ attribute-twice _ _ _ (c7 .read-name .ensures) w (c5 .naming .given .1) (c3 .text .ensures) (c2 .is-listed .ensures) (c1 .if1 .taken)
 
 returns-3 : tie.Need-returns-3
-unfolding attributeRules earlierIn
+unfolding earlierIn
 returns-3 c =
     let c1 = c .before in
     let c2 = c1 .before in
@@ -35,12 +34,12 @@ returns-3 c =
     let c5 = c4 .before in
     let c7 = c5 .before .before in
     let c9 = c7 .before .before in
-    c .refused2 .ensures
-    ∙ attribute-refers _ _ _ (c9 .read-name .ensures) (c7 .naming .given .1) (c5 .text .ensures) (c4 .is-listed .ensures) (c3 .if1 .left)
+    λ w. c .uncounted2 .ensures w
+    ∙ attribute-refers _ _ _ (c9 .read-name .ensures) w (c7 .naming .given .1) (c5 .text .ensures) (c4 .is-listed .ensures) (c3 .if1 .left)
     (c2 .bytes-of .ensures) (c1 .if2 .taken)
 
 returns-4 : tie.Need-returns-4
-unfolding attributeRules earlierIn
+unfolding earlierIn
 returns-4 c =
     let c1 = c .before in
     let c2 = c1 .before in
@@ -51,12 +50,12 @@ returns-4 c =
     let c7 = c6 .before in
     let c9 = c7 .before .before in
     let c11 = c9 .before .before in
-    c .refused3 .ensures
-    ∙ attribute-bad _ _ _ (c11 .read-name .ensures) (c9 .naming .given .1) (c7 .text .ensures) (c6 .is-listed .ensures) (c5 .if1 .left)
+    λ w. c .uncounted3 .ensures w
+    ∙ attribute-bad _ _ _ (c11 .read-name .ensures) w (c9 .naming .given .1) (c7 .text .ensures) (c6 .is-listed .ensures) (c5 .if1 .left)
     (c4 .bytes-of .ensures) (c3 .if2 .left) (c2 .is-bad-value .ensures) (c1 .if3 .taken)
 
 returns-5 : tie.Need-returns-5
-unfolding attributeRules earlierIn rulingSays
+unfolding earlierIn tallySays
 returns-5 c =
     let c1 = c .before in
     let c2 = c1 .before in
@@ -66,7 +65,7 @@ returns-5 c =
     let c6 = c5 .before in
     let c8 = c6 .before .before in
     let c10 = c8 .before .before in
-    attribute-good _ _ _ (c10 .read-name .ensures) (c8 .naming .given .1) (c6 .text .ensures) (c5 .is-listed .ensures) (c4 .if1 .left)
+    λ w. attribute-good _ _ _ (c10 .read-name .ensures) w (c8 .naming .given .1) (c6 .text .ensures) (c5 .is-listed .ensures) (c4 .if1 .left)
     (c3 .bytes-of .ensures) (c2 .if2 .left) (c1 .is-bad-value .ensures) (c .if3 .left)
 
 is-listed-requires : tie.Need-is-listed-requires

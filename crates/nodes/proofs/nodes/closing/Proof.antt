@@ -15,7 +15,7 @@ returns c =
     let c2 = c1 .before in
     let entry = c2 .before .before .before .before in (
       c .stopped .ensures .0 _ _ ∙ closing-none _ _ _ _ (c2 .has .ensures) (not-true _ (c1 .if1 .taken)),
-      (c .stopped .ensures .1 _, (keeps-all _ _, recalled-none (entry .pre .1 .1 .1))),
+      (c .stopped .ensures .1 _, (keeps-all _ _, recalled-none (entry .pre .1 .1 .1 .1))),
     )
 
 node-outputs-requires : tie.Need-node-outputs-requires
@@ -27,8 +27,10 @@ returns-2 : tie.Need-returns-2
 returns-2 c =
     let c6 = c .before .before .before .before .before .before in
     let c9 = c6 .before .before .before in
-    let c10 = c9 .before in
-    (closing-stops _ _ _ _ (c10 .has .ensures) (not-false _ (c9 .if1 .left)) _ _ (c6 .node-outputs .ensures .0) (c .enum-told .given .1), c6 .node-outputs .ensures .1)
+    let c10 = c9 .before in (
+      closing-stops _ _ _ _ (c10 .has .ensures) (not-false _ (c9 .if1 .left)) _ _ (c6 .node-outputs .ensures .0) (c .enum-told .given .1),
+      c6 .node-outputs .ensures .1,
+    )
 
 add-t15 : tie.Need-add-t15
 unfolding walkIn

@@ -1,4 +1,3 @@
-use Rattle.scope.proofs.RecallLaws.{recalled-none, recalled-then}
 use Prim.Native.Nat.{_-_}
 use mathlib.Core.Path.{_∙_}
 use lib.ListN.{length}
@@ -9,16 +8,20 @@ use Rattle.rules.specs.Verdict.{fills}
 use Rattle.rules.specs.Node.{nodeOutput}
 use Rattle.scope.specs.Scope.{walkIn}
 use Rattle.scope.specs.Recall.{Recalled}
+use Rattle.scope.proofs.RecallLaws.{recalled-none, recalled-then}
 use Rattle.scope.proofs.RecordLaws.{node-output}
-use Rattle.scope.proofs.StepLaws.{Adding, adding-start, adding-done, adding-falls, adding-direct, adding-stops, adding-goes}
+use Rattle.scope.proofs.StepLaws.{Adding, adding-start, adding-done, adding-falls, adding-countable, from-contents, adding-direct, adding-stops, adding-goes}
+use Rattle.messages.specs.Again.{fieldNames}
+use Rattle.nodes.proofs.OutputLaws.{output-counts}
 use borrow.Author.Needs.{needs}
 use Rattle.nodes.proofs.outputs.node_outputs.Statement.{statement}
 use Rattle.nodes.proofs.outputs.node_outputs.Tie as tie
 
 abbrev Inv-loop : tie.InvT-loop
 Inv-loop model cells₀ extra₀ ix c₀ q₀ cells extra c q =
-    Adding model Node·output (c₀ .end) (c₀ .at) (λ n. nodeOutput model (fills n)) (each (nodeOutput model (fills (length cells₀))) (walkIn model cells₀ q₀)
-    (allFrom model Node·output (c₀ .end) (c₀ .at))) cells₀ q₀ cells q c × Recalled model ix cells extra₀ extra
+    Adding model Node·output (c₀ .end) (c₀ .at) (fieldNames model) (λ n. nodeOutput model (fills n))
+    (each (nodeOutput model (fills (length cells₀))) (walkIn model cells₀ q₀) (allFrom model Node·output (c₀ .end) (c₀ .at))) cells₀ q₀ cells q c
+    × Recalled model ix cells extra₀ extra
 
 abbrev μ-loop : tie.MeasureT-loop
 μ-loop model cells₀ extra₀ ix c₀ q₀ cells extra c q = c₀ .end - c .at
@@ -26,7 +29,7 @@ abbrev μ-loop : tie.MeasureT-loop
 loop-holds : tie.Need-loop-holds Inv-loop μ-loop
 loop-holds c =
     let entry = c .before .before .before .before in
-    (adding-start _ _ _ _ _ _ (along-start _ _ _ _ _), recalled-none (entry .pre .1 .1))
+    (adding-start _ _ _ _ _ _ _ (along-start _ _ _ _ _), recalled-none (entry .pre .1 .1 .1))
 
 same-length-2 : tie.Need-same-length-2 Inv-loop μ-loop
 same-length-2 c =
@@ -49,7 +52,11 @@ node-output-requires c κs =
     let c7 = loop .before in
     let entry = c7 .before .before .before .before in (
       adding-direct (loop .loop .inv .0) (c5 .next-of .ensures) (c3 .sought .given .1) (entry .pre .1 .0) (c7 .contents .ensures) node-output,
-      (entry .pre .0, loop .loop .inv .1 .recalls),
+      (
+        adding-countable (loop .loop .inv .0) (c5 .next-of .ensures) (c3 .sought .given .1)
+            (from-contents _ _ _ _ _ (c7 .contents .ensures) (entry .pre .1 .1 .0)),
+        (entry .pre .0, loop .loop .inv .1 .recalls),
+      ),
     )
 
 returns-2 : tie.Need-returns-2 Inv-loop μ-loop
@@ -79,8 +86,8 @@ loop-again c =
     let c11 = c7 .before .before .before .before in
     let c13 = c11 .before .before in
     let loop = c13 .before in (
-      adding-goes (loop .loop .inv .0) (c13 .next-of .ensures) (c11 .sought .given .1) _ (c7 .node-output .ensures .0) (c7 .node-output .ensures .1 .0)
-          (c7 .node-output .ensures .1 .1 .0) (c1 .step .given .1),
+      adding-goes (loop .loop .inv .0) (c13 .next-of .ensures) (c11 .sought .given .1) _ (c7 .node-output .ensures .0)
+          (c7 .node-output .ensures .1 .0) (c7 .node-output .ensures .1 .1 .0) (output-counts _) (c1 .step .given .1),
       recalled-then (loop .loop .inv .1) (c7 .node-output .ensures .1 .1 .1),
     )
 

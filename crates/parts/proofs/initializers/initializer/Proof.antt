@@ -1,32 +1,45 @@
-use Rattle.values.proofs.NameLaws.{named-some, named-first}
-use Rattle.scope.proofs.RecallLaws.{recalled-none}
 use mathlib.Core.Path.{subst, _∙_}
 use Rattle.scope.specs.Scope.{stepSays, grows}
+use Rattle.scope.proofs.RecallLaws.{recalled-none}
 use Rattle.scope.proofs.ScopeLaws.{keeps-all}
 use Rattle.scope.proofs.RecordLaws.{tensor-name, name-first}
-use Rattle.parts.proofs.InitializerLaws.{initializer-unnamed, initializer-stops, initializer-mistyped, initializer-goes}
+use Rattle.scope.proofs.StepLaws.{odd-grows, odd-keeps}
+use Rattle.values.proofs.NameLaws.{named-some, named-first, named-few}
+use Rattle.parts.proofs.InitializerLaws.{initializer-unnamed, initializer-stops, initializer-mistyped, initializer-goes, initializer-fits}
 use borrow.Author.Needs.{needs}
 use Rattle.parts.proofs.initializers.initializer.Statement.{statement}
 use Rattle.parts.proofs.initializers.initializer.Tie as tie
 
+with-odd-requires : tie.Need-with-odd-requires
+with-odd-requires c κs =
+    let c1 = c .before in
+    let c3 = c1 .before .before in
+    let entry = c3 .before .before .before .before in
+    initializer-fits _ _ _ (entry .pre .1 .1 .0) (named-few _ _ _ _ _ (c3 .read-name .ensures) (c1 .name .given .1))
+
 default-or-new-requires : tie.Need-default-or-new-requires
 default-or-new-requires c κs =
-    let c3 = c .before .before .before in
-    let c5 = c3 .before .before in
-    let entry = c5 .before .before .before .before in (
-      name-first (entry .pre .1 .0) tensor-name (named-first _ _ _ _ _ (c5 .read-name .ensures) (c3 .name .given .1)),
+    let c4 = c .before .before .before .before in
+    let c6 = c4 .before .before in
+    let entry = c6 .before .before .before .before in (
+      name-first (entry .pre .1 .0) tensor-name (named-first _ _ _ _ _ (c6 .read-name .ensures) (c4 .name .given .1)),
       (
         entry .pre .0,
-        (entry .pre .1 .1 .0, (entry .pre .1 .1 .1 .0, (entry .pre .1 .1 .1 .1, named-some _ _ _ _ _ (c5 .read-name .ensures) (c3 .name .given .1)))),
+        (entry .pre .1 .1 .1 .0, (entry .pre .1 .1 .1 .1 .0, (entry .pre .1 .1 .1 .1 .1, named-some _ _ _ _ _ (c6 .read-name .ensures) (c4 .name .given .1)))),
       ),
     )
 
 returns : tie.Need-returns
 returns c =
     let c6 = c .before .before .before .before .before .before in
-    let c10 = c6 .before .before .before .before in
-    let c12 = c10 .before .before in
-    (initializer-stops _ _ _ _ _ _ _ (c12 .read-name .ensures) (c10 .name .given .1) _ _ (c6 .default-or-new .ensures .0) (c .enum-told .given .1), c6 .default-or-new .ensures .1)
+    let c9 = c6 .before .before .before in
+    let c11 = c9 .before .before in
+    let c13 = c11 .before .before in
+    let e = c9 .with-odd .ensures in
+    let d = c6 .default-or-new .ensures in (
+      initializer-stops _ _ _ _ _ _ _ _ (c13 .read-name .ensures) (c11 .name .given .1) e _ _ (d .0) (c .enum-told .given .1),
+      (odd-grows _ _ e _ (d .1 .0), (odd-keeps _ _ e (d .1 .1 .0), d .1 .1 .1)),
+    )
 
 returns-2 : tie.Need-returns-2
 unfolding stepSays
@@ -35,14 +48,14 @@ returns-2 c =
     let c2 = c1 .before in
     let c4 = c2 .before .before in
     let c10 = c4 .before .before .before .before .before .before in
-    let c14 = c10 .before .before .before .before in
-    let c16 = c14 .before .before in (
-      initializer-goes _ _ _ _ _ _ _ (c16 .read-name .ensures) (c14 .name .given .1) _ _ (c10 .default-or-new .ensures .0) (c4 .step .given .1)
+    let c13 = c10 .before .before .before in
+    let c15 = c13 .before .before in
+    let c17 = c15 .before .before in
+    let e = c13 .with-odd .ensures in
+    let d = c10 .default-or-new .ensures in (
+      initializer-goes _ _ _ _ _ _ _ _ (c17 .read-name .ensures) (c15 .name .given .1) e _ _ (d .0) (c4 .step .given .1)
           (c2 .number-of .ensures) (c1 .is-element .ensures) (c .if1 .taken),
-      (
-        subst (grows _) (c4 .step .given .1) (c10 .default-or-new .ensures .1 .0),
-        c10 .default-or-new .ensures .1 .1,
-      ),
+      (subst (grows _) (c4 .step .given .1) (odd-grows _ _ e _ (d .1 .0)), (odd-keeps _ _ e (d .1 .1 .0), d .1 .1 .1)),
     )
 
 returns-3 : tie.Need-returns-3
@@ -51,7 +64,7 @@ returns-3 c =
     let c1 = c .before in
     let c3 = c1 .before .before in
     let entry = c3 .before .before .before .before in
-    (initializer-unnamed _ _ _ _ _ _ _ (c3 .read-name .ensures) (c1 .r .given .1), (tt, (keeps-all _ _, recalled-none (entry .pre .1 .1 .0))))
+    (initializer-unnamed _ _ _ _ _ _ _ _ (c3 .read-name .ensures) (c1 .r .given .1), (tt, (keeps-all _ _, recalled-none (entry .pre .1 .1 .1 .0))))
 
 returns-4 : tie.Need-returns-4
 returns-4 c =
@@ -61,14 +74,14 @@ returns-4 c =
     let c4 = c3 .before in
     let c6 = c4 .before .before in
     let c12 = c6 .before .before .before .before .before .before in
-    let c16 = c12 .before .before .before .before in
-    let c18 = c16 .before .before in (
-      c .stopped .ensures .0 _ _ ∙ initializer-mistyped _ _ _ _ _ _ _ (c18 .read-name .ensures) (c16 .name .given .1) _ _ (c12 .default-or-new .ensures .0)
+    let c15 = c12 .before .before .before in
+    let c17 = c15 .before .before in
+    let c19 = c17 .before .before in
+    let e = c15 .with-odd .ensures in
+    let d = c12 .default-or-new .ensures in (
+      c .stopped .ensures .0 _ _ ∙ initializer-mistyped _ _ _ _ _ _ _ _ (c19 .read-name .ensures) (c17 .name .given .1) e _ _ (d .0)
           (c6 .step .given .1) (c4 .number-of .ensures) (c3 .is-element .ensures) (c2 .if1 .left) (c1 .place-of .ensures),
-      (
-        c .stopped .ensures .1 _,
-        c12 .default-or-new .ensures .1 .1,
-      ),
+      (c .stopped .ensures .1 _, (odd-keeps _ _ e (d .1 .1 .0), d .1 .1 .1)),
     )
 
 pub initializer-spec : {M : Type 1} → statement M
@@ -78,6 +91,7 @@ initializer-spec =
     (λ c κs. search needs)
     (λ c. search needs)
     (λ c. search needs)
+    with-odd-requires
     default-or-new-requires
     (λ c. search needs)
     (λ c. search needs)

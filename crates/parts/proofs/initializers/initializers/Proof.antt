@@ -2,7 +2,7 @@ use native.Mathlib.Omega.{arith}
 use Prim.Native.Nat.{_≤_}
 use Rattle.scope.proofs.RecallLaws.{minded-then, minded-recalled}
 use Rattle.parts.proofs.ListsLaws.{Lists, lists-start, lists-fits, lists-found, lists-next}
-use Rattle.parts.proofs.InitializerLaws.{default-kept, used-after}
+use Rattle.parts.proofs.InitializerLaws.{default-kept, used-after, initializer-counts}
 use Rattle.schema.proofs.Opened.{graph-initializer}
 use Rattle.schema.specs.Numbers.{Tensor·name}
 use Rattle.scope.specs.Scope.{Defaultable}
@@ -14,15 +14,15 @@ use Rattle.wire.proofs.Along.{allFrom, along-start, along-contents}
 use Rattle.schema.specs.Numbers.{Graph·initializer}
 use Rattle.rules.specs.Verdict.{fills}
 use Rattle.scope.specs.Scope.{walkIn}
-use Rattle.messages.specs.Again.{initializerAgain}
-use Rattle.scope.proofs.StepLaws.{Adding, adding-start, adding-done, adding-falls, adding-walked, adding-stops, adding-goes}
+use Rattle.messages.specs.Again.{tensorNames, initializerAgain}
+use Rattle.scope.proofs.StepLaws.{Adding, adding-start, adding-done, adding-falls, adding-walked, adding-countable, from-contents, adding-stops, adding-goes}
 use borrow.Author.Needs.{needs}
 use Rattle.parts.proofs.initializers.initializers.Statement.{statement}
 use Rattle.parts.proofs.initializers.initializers.Tie as tie
 
 abbrev Inv-loop : tie.InvT-loop
 Inv-loop model cells₀ extra₀ ix top main graph inputs c₀ q₀ l₀ cells extra c q l =
-    Adding model Graph·initializer (c₀ .end) (c₀ .at) (λ n. initializerAgain model (fills n) main graph) (each (initializerAgain model
+    Adding model Graph·initializer (c₀ .end) (c₀ .at) (tensorNames model) (λ n. initializerAgain model (fills n) main graph) (each (initializerAgain model
     (fills (length cells₀)) main graph) (walkIn model cells₀ q₀) (allFrom model Graph·initializer (c₀ .end) (c₀ .at))) cells₀ q₀ cells q
     c × Lists model ix top Graph·initializer Tensor·name graph extra₀ cells extra l c × Defaultable model main graph cells inputs × (inputs ≤ q .used)
 
@@ -32,9 +32,9 @@ abbrev μ-loop : tie.MeasureT-loop
 loop-holds : tie.Need-loop-holds Inv-loop μ-loop
 loop-holds c =
     let entry = c .before .before .before .before in (
-      adding-start _ _ _ _ _ _ (along-start _ _ _ _ _),
-      lists-start _ _ _ (entry .pre .1 .1 .0) (entry .pre .1 .1 .1 .1) _ (c .contents .ensures),
-      entry .pre .1 .1 .1 .0,
+      adding-start _ _ _ _ _ _ _ (along-start _ _ _ _ _),
+      lists-start _ _ _ (entry .pre .1 .1 .1 .0) (entry .pre .1 .1 .1 .1 .1) _ (c .contents .ensures),
+      entry .pre .1 .1 .1 .1 .0,
       omega arith,
     )
 
@@ -61,7 +61,11 @@ initializer-requires c κs =
       entry .pre .0,
       (
         adding-walked (loop .loop .inv .0) (c5 .next-of .ensures) (c3 .sought .given .1) (entry .pre .1 .0) (c7 .contents .ensures) graph-initializer,
-        (loop .loop .inv .1 .minded .recalls, (loop .loop .inv .2, lists-found (loop .loop .inv .1) (c5 .next-of .ensures) (c3 .sought .given .1))),
+        (
+          adding-countable (loop .loop .inv .0) (c5 .next-of .ensures) (c3 .sought .given .1)
+              (from-contents _ _ _ _ _ (c7 .contents .ensures) (entry .pre .1 .1 .0)),
+          (loop .loop .inv .1 .minded .recalls, (loop .loop .inv .2, lists-found (loop .loop .inv .1) (c5 .next-of .ensures) (c3 .sought .given .1))),
+        ),
       ),
     )
 
@@ -100,7 +104,7 @@ loop-again c =
     let c17 = c15 .before .before in
     let loop = c17 .before in (
       adding-goes (loop .loop .inv .0) (c17 .next-of .ensures) (c15 .sought .given .1) _ (c11 .initializer .ensures .0) (c11 .initializer .ensures .1 .0)
-          (c11 .initializer .ensures .1 .1 .0) (c5 .step .given .1),
+          (c11 .initializer .ensures .1 .1 .0) (initializer-counts _ _ _) (c5 .step .given .1),
       lists-next (loop .loop .inv .1) (c17 .next-of .ensures) (c15 .sought .given .1)
           (minded-recalled (lists-fits (loop .loop .inv .1)) (c11 .initializer .ensures .1 .1 .1)) (c2 .list .ensures),
       default-kept (loop .loop .inv .2)

@@ -8,18 +8,19 @@ use Rattle.schema.proofs.Opened.{graph-input}
 use Rattle.schema.specs.Numbers.{Graph·input}
 use Rattle.rules.specs.Verdict.{fills}
 use Rattle.rules.specs.Graph.{input}
+use Rattle.rules.specs.Count.{valueNames}
 use Rattle.scope.specs.Scope.{walkIn}
 use Rattle.scope.specs.Recall.{Recalled}
 use Rattle.scope.proofs.StepLaws.{plain}
-use Rattle.parts.proofs.InputLaws.{inputs-any}
-use Rattle.scope.proofs.StepLaws.{Adding, adding-start, adding-done, adding-falls, adding-walked, adding-stops, adding-goes}
+use Rattle.parts.proofs.InputLaws.{inputs-any, input-counts}
+use Rattle.scope.proofs.StepLaws.{Adding, adding-start, adding-done, adding-falls, adding-walked, adding-countable, from-contents, adding-stops, adding-goes}
 use borrow.Author.Needs.{needs}
 use Rattle.parts.proofs.inputs.inputs.Statement.{statement}
 use Rattle.parts.proofs.inputs.inputs.Tie as tie
 
 abbrev Inv-loop : tie.InvT-loop
 Inv-loop model cells₀ extra₀ ix main c₀ q₀ cells extra c q =
-    Adding model Graph·input (c₀ .end) (c₀ .at) (λ n. input model (fills n) (plain main)) (each (input model (fills (length cells₀)) (plain main)) (walkIn model
+    Adding model Graph·input (c₀ .end) (c₀ .at) (valueNames model main) (λ n. input model (fills n) (plain main)) (each (input model (fills (length cells₀)) (plain main)) (walkIn model
     cells₀ q₀) (allFrom model Graph·input (c₀ .end) (c₀ .at))) cells₀ q₀ cells q c × Recalled model ix cells extra₀ extra
 
 abbrev μ-loop : tie.MeasureT-loop
@@ -28,7 +29,7 @@ abbrev μ-loop : tie.MeasureT-loop
 loop-holds : tie.Need-loop-holds Inv-loop μ-loop
 loop-holds c =
     let entry = c .before .before .before .before in
-    (adding-start _ _ _ _ _ _ (along-start _ _ _ _ _), recalled-none (entry .pre .1 .1))
+    (adding-start _ _ _ _ _ _ _ (along-start _ _ _ _ _), recalled-none (entry .pre .1 .1 .1))
 
 same-length-2 : tie.Need-same-length-2 Inv-loop μ-loop
 same-length-2 c =
@@ -53,7 +54,10 @@ input-requires c κs =
       entry .pre .0,
       (
         adding-walked (loop .loop .inv .0) (c5 .next-of .ensures) (c3 .sought .given .1) (entry .pre .1 .0) (c7 .contents .ensures) graph-input,
-        loop .loop .inv .1 .recalls,
+        (
+          adding-countable (loop .loop .inv .0) (c5 .next-of .ensures) (c3 .sought .given .1) (from-contents _ _ _ _ _ (c7 .contents .ensures) (entry .pre .1 .1 .0)),
+          loop .loop .inv .1 .recalls,
+        ),
       ),
     )
 
@@ -86,7 +90,7 @@ loop-again c =
     let c13 = c11 .before .before in
     let loop = c13 .before in (
       adding-goes (loop .loop .inv .0) (c13 .next-of .ensures) (c11 .sought .given .1) _ (c7 .input .ensures .0 _ refl) (c7 .input .ensures .1 .0)
-          (c7 .input .ensures .1 .1 .0) (c1 .step .given .1),
+          (c7 .input .ensures .1 .1 .0) (input-counts _ _) (c1 .step .given .1),
       recalled-then (loop .loop .inv .1) (c7 .input .ensures .1 .1 .1),
     )
 

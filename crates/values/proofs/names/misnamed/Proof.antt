@@ -5,7 +5,7 @@ use Rattle.values.proofs.names.misnamed.Tie as tie
 
 returns : tie.Need-returns
 unfolding namingSays
-returns c = refl
+returns c = λ w. refl
 
 pub misnamed-spec : {M : Type 1} → statement M
 misnamed-spec =

@@ -12,7 +12,7 @@ returns c =
     let c2 = c1 .before in
     let c3 = c2 .before in
     let c4 = c3 .before in
-    c .refused .ensures ∙ elem-bad _ _ (c4 .number-of .ensures) (c3 .is-element .ensures) (c1 .place-of .ensures) (not-true _ (c2 .if1 .taken))
+    λ w. c .uncounted .ensures w ∙ elem-bad _ _ w (c4 .number-of .ensures) (c3 .is-element .ensures) (c1 .place-of .ensures) (not-true _ (c2 .if1 .taken))
 
 returns-2 : tie.Need-returns-2
 returns-2 c =
@@ -21,8 +21,8 @@ returns-2 c =
     let c4 = c3 .before in
     let c5 = c4 .before in
     let c6 = c5 .before in
-    c .refused2 .ensures
-    ∙ shape-none _ _ (c6 .number-of .ensures) (c5 .is-element .ensures) (not-false _ (c4 .if1 .left))
+    λ w. c .uncounted2 .ensures w
+    ∙ shape-none _ _ w (c6 .number-of .ensures) (c5 .is-element .ensures) (not-false _ (c4 .if1 .left))
     (missing _ _ _ _ (c3 .first-of .ensures) (c1 .enum-told .given .1))
 
 returns-3 : tie.Need-returns-3
@@ -32,7 +32,7 @@ returns-3 c =
     let c5 = c4 .before in
     let c6 = c5 .before in
     let c7 = c6 .before in
-    c .dims .ensures ∙ shape-some _ _ (c7 .number-of .ensures) (c6 .is-element .ensures) (not-false _ (c5 .if1 .left)) (found _ _ _ _ (c4 .first-of .ensures) (c2 .shape .given .1))
+    λ w. c .dims .ensures w ∙ shape-some _ _ w (c7 .number-of .ensures) (c6 .is-element .ensures) (not-false _ (c5 .if1 .left)) (found _ _ _ _ (c4 .first-of .ensures) (c2 .shape .given .1))
 
 pub tensor-type-spec : {M : Type 1} → statement M
 tensor-type-spec =

@@ -2,6 +2,7 @@
 use Prim.Native.Nat.{ℕ, _-_}
 use native.Mathlib.Omega.{arith}
 use mathlib.Core.Path.{refl, _∙_}
+use mathlib.Core.Bool.{false}
 use denote.Ref.{now}
 use lib.ListN.{length}
 use Rattle.varint.specs.Outcome.{each}
@@ -9,16 +10,17 @@ use Rattle.wire.specs.Answers.{contentsOf}
 use Rattle.wire.proofs.Along.{allFrom}
 use Rattle.schema.specs.Numbers.{Graph·node, Node·name}
 use Rattle.rules.specs.Verdict.{fills}
+use Rattle.rules.specs.Count.{nodeNames, namesIn}
 use Rattle.scope.specs.Scope.{walkIn}
 use Rattle.scope.specs.Recall.{Minds}
-use Rattle.messages.specs.Again.{context, nodeAgain}
+use Rattle.messages.specs.Again.{nodeAgain}
 use Rattle.scope.proofs.ScopeLaws.{keeps-all}
 use Rattle.scope.proofs.RecallLaws.{minded-none, minded-then, minded-fewer, minds-still, minds-higher}
 use Rattle.parts.proofs.ListsLaws.{Lists, lists-start, lists-fits, lists-found, lists-next, lists-minds}
 use Rattle.schema.proofs.Opened.{graph-node}
-use Rattle.cycle.proofs.CycleLaws.{Going, own-contents, going-start, going-falls, going-enters, going-shorter, going-goes}
+use Rattle.cycle.proofs.CycleLaws.{Going, own-contents, going-start, going-falls, going-enters, going-shorter, going-countable, going-goes}
 use Rattle.cycle.proofs.PromiseLaws.{promised-and, stopped-counts}
-use Rattle.cycle.proofs.GraphLaws.{Nested}
+use Rattle.cycle.proofs.GraphLaws.{Nested, opening-countable, outputs-room, nodes-countable, outputs-fit, nodes-count}
 use Rattle.cycle.proofs.GraphLaws.{graph-deep, graph-unopened, first-low, nodes-stop, nodes-done}
 use Rattle.cycle.proofs.graphs.graph.Reads as graph
 use Rattle.cycle.proofs.graphs.+attribute+graph+node.Lts-graph as graph-lts
@@ -26,7 +28,7 @@ use Rattle.cycle.proofs.graphs.node.Reads as node
 use Rattle.parts.proofs.opening.Reads as opening-reads
 use Rattle.nodes.proofs.graph_outputs.Reads as graph-outputs-reads
 use Rattle.scope.proofs.list.Reads as list-reads
-use Rattle.scope.proofs.standing.Reads as standing-reads
+use Rattle.scope.proofs.counting.Reads as counting-reads
 use Rattle.scope.proofs.stopped.Reads as stopped-reads
 use Rattle.wire.proofs.Cursor.next_of.Reads as next-of-reads
 use Rattle.wire.proofs.Field.contents.Reads as contents-reads
@@ -44,8 +46,8 @@ graph-claims t = (
   next-of-reads.Learnt,
   graph-outputs-reads.Asked,
   graph-outputs-reads.Learnt,
-  standing-reads.Asked,
-  standing-reads.Learnt,
+  counting-reads.Asked,
+  counting-reads.Learnt,
   node-below t,
   node.Post,
   list-reads.Asked,
@@ -54,7 +56,8 @@ graph-claims t = (
 
 abbrev pub graph-Inv-loop : graph-lts.InvT-loop
 graph-Inv-loop model cells₀ extra₀ ix top left main f c₀ q₀ l₀ cells extra c q l =
-    Going model Graph·node (f .next) (f .start) (λ size. nodeAgain model (fills size) (Nested model (left - 1) size) f)
+    Going model Graph·node (f .next) (f .start) (nodeNames model (namesIn model (left - 1) false))
+    (λ size. nodeAgain model (fills size) (Nested model (left - 1) size) f)
     (each (nodeAgain model (fills (length cells₀)) (Nested model (left - 1) (length cells₀)) f) (walkIn model cells₀ q₀)
     (allFrom model Graph·node (f .next) (f .start))) cells₀ q₀ cells q c × Lists model ix top Graph·node Node·name f extra₀ cells extra l c
     × Minds model ix top cells extra
@@ -75,8 +78,10 @@ graph-returns t c =
 
 pub graph-opening-requires : (t : ℕ) → graph-lts.Need-opening-requires (graph-claims t) (graph-at t) graph.Post graph-Inv-loop graph-μ-loop
 graph-opening-requires t c κs =
-    let entry = c .before .before .before .before .before .before in
-    (entry .pre .1 .0 .short, (entry .pre .1 .0 .walked, (entry .pre .1 .1 .0 .recalls, (entry .pre .1 .1 .0 .fits, entry .pre .1 .1 .1))))
+    let c2 = c .before .before in
+    let entry = c2 .before .before .before .before in
+    let room = opening-countable _ _ _ _ _ (c2 .if1 .left) (entry .pre .1 .1 .1 .1) in
+    (entry .pre .1 .0 .short, (entry .pre .1 .0 .walked, (room, (entry .pre .1 .1 .0 .recalls, (entry .pre .1 .1 .0 .fits, entry .pre .1 .1 .1 .0)))))
 
 pub graph-returns-2 : (t : ℕ) → graph-lts.Need-returns-2 (graph-claims t) (graph-at t) graph.Post graph-Inv-loop graph-μ-loop
 graph-returns-2 t c =
@@ -87,19 +92,27 @@ graph-returns-2 t c =
 
 pub graph-loop-holds : (t : ℕ) → graph-lts.Need-loop-holds (graph-claims t) (graph-at t) graph.Post graph-Inv-loop graph-μ-loop
 unfolding contentsOf
-graph-loop-holds t c =
-    let c8 = c .before .before .before .before .before .before .before .before in
-    let entry = c8 .before .before .before .before .before .before .before in
-    rw (c .contents .ensures) (
-      going-start _ _ _ _ _ _ (entry .pre .1 .0 .ends),
-      lists-start _ _ _ (c8 .opening .ensures .1 .1 .1 .recalls) (c8 .opening .ensures .1 .1 .1 .held .fits) _ refl,
-      minds-still (entry .pre .1 .1 .0) (c8 .opening .ensures .1 .1 .1),
-    )
+graph-loop-holds t c = rw (c .contents .ensures) (
+  going-start _ _ _ _ _ _ _ (c .before .before .before .before .before .before .before .before .before .before .before .before .before .before .before .pre .1 .0 .ends),
+  lists-start _ _ _ (c .before .before .before .before .before .before .before .before .opening .ensures .1 .1 .1 .recalls) (c .before .before .before .before .before .before .before .before .opening .ensures .1 .1 .1 .held .fits) _ refl,
+  minds-still (c .before .before .before .before .before .before .before .before .before .before .before .before .before .before .before .pre .1 .1 .0) (c .before .before .before .before .before .before .before .before .opening .ensures .1 .1 .1),
+)
 
 pub graph-graph-outputs-requires : (t : ℕ) → graph-lts.Need-graph-outputs-requires (graph-claims t) (graph-at t) graph.Post graph-Inv-loop graph-μ-loop
 graph-graph-outputs-requires t c κs =
     let loop = c .before .before .before .before .before in
-    loop .loop .inv .1 .minded .recalls
+    let c17 = loop .before .before .before .before .before .before .before .before .before .before .before .before in
+    let entry = c17 .before .before .before .before in
+    (loop .loop .inv .1 .minded .recalls, outputs-room _ _ _ _ _ (c17 .if1 .left) (entry .pre .1 .1 .1 .1))
+
+pub graph-counting-requires : (t : ℕ) → graph-lts.Need-counting-requires (graph-claims t) (graph-at t) graph.Post graph-Inv-loop graph-μ-loop
+graph-counting-requires t c κs =
+    let loop = c .before .before .before .before .before .before in
+    let c9 = loop .before .before .before in
+    let c15 = c9 .before .before .before .before .before .before in
+    let c18 = c15 .before .before .before in
+    let entry = c18 .before .before .before .before in
+    outputs-fit _ _ _ _ _ _ (c18 .if1 .left) _ _ (c15 .opening .ensures .0) (c15 .opening .ensures .1 .1 .0) (c9 .opened .given .1) (c15 .opening .ensures .1 .0) (loop .loop .inv .0) _ (c .graph-outputs .ensures) (entry .pre .1 .1 .1 .1)
 
 pub graph-same-length-3 : (t : ℕ) → graph-lts.Need-same-length-3 (graph-claims t) (graph-at t) graph.Post graph-Inv-loop graph-μ-loop
 graph-same-length-3 t c =
@@ -114,7 +127,6 @@ graph-same-length-4 t c =
     loop .loop .inv .1 .minded .size ∙ c16 .opening .ensures .1 .1 .1 .size
 
 pub graph-returns-3 : (t : ℕ) → graph-lts.Need-returns-3 (graph-claims t) (graph-at t) graph.Post graph-Inv-loop graph-μ-loop
-unfolding context
 graph-returns-3 t c =
     let c1 = c .before in
     let c4 = c1 .before .before .before in
@@ -126,13 +138,12 @@ graph-returns-3 t c =
     let entry = c19 .before .before .before .before in
     promised-and (nodes-done _ _ _ _ _ _ (c19 .if1 .left) _ _ (c16 .opening .ensures .0) (c16 .opening .ensures .1 .1 .0) (c10 .opened .given .1)
     (c16 .opening .ensures .1 .0) (loop .loop .inv .0) (c6 .next-of .ensures) (entry .pre .1 .0) (c4 .enum-told2 .given .1) _
-    (c1 .graph-outputs .ensures (context _ _) refl) (c .standing .ensures))
+    (c1 .graph-outputs .ensures) (c .counting .ensures))
     (minded-then (c16 .opening .ensures .1 .1 .1) (loop .loop .inv .1 .minded))
 
 pub graph-sub-node : (t : ℕ) → graph-lts.Need-sub-node (graph-claims t) (graph-at t) graph.Post graph-Inv-loop graph-μ-loop
 graph-sub-node t c =
-    let c9 = c .before .before .before .before .before .before .before .before .before in
-    let c18 = c9 .before .before .before .before .before .before .before .before .before in
+    let c18 = c .before .before .before .before .before .before .before .before .before .before .before .before .before .before .before .before .before .before in
     omega (arith, c18 .if1 .left)
 
 pub graph-node-requires : (t : ℕ) → graph-lts.Need-node-requires (graph-claims t) (graph-at t) graph.Post graph-Inv-loop graph-μ-loop
@@ -143,15 +154,18 @@ graph-node-requires t c κs =
     let c9 = loop .before .before .before in
     let c15 = c9 .before .before .before .before .before .before in
     let c18 = c15 .before .before .before in
-    let entry = c18 .before .before .before .before in (
+    let entry = c18 .before .before .before .before in
+    let room = nodes-countable _ _ _ _ _ _ (c18 .if1 .left) _ _ (c15 .opening .ensures .0) (c15 .opening .ensures .1 .1 .0) (c9 .opened .given .1) (entry .pre .1 .1 .1 .1) in (
       going-shorter (loop .loop .inv .0) (c5 .next-of .ensures) (c3 .sought .given .1) (entry .pre .0),
       (
         going-enters (loop .loop .inv .0) (c5 .next-of .ensures) (c3 .sought .given .1) (entry .pre .1 .0 .short) (entry .pre .1 .0 .walked)
-            (own-contents _) graph-node (first-low _ _ _ _ _ _ (c18 .if1 .left) _ _ (c15 .opening .ensures .0) (c15 .opening .ensures .1 .1 .0) (c9 .opened .given .1)
-            (entry .pre .1 .0)),
+            (own-contents _) graph-node (first-low _ _ _ _ _ _ (c18 .if1 .left) _ _ (c15 .opening .ensures .0) (c15 .opening .ensures .1 .1 .0) (c9 .opened .given .1) (entry .pre .1 .0)),
         (
           minds-higher (loop .loop .inv .2) (loop .loop .inv .1 .above) (lists-fits (loop .loop .inv .1)),
-          lists-found (loop .loop .inv .1) (c5 .next-of .ensures) (c3 .sought .given .1),
+          (
+            lists-found (loop .loop .inv .1) (c5 .next-of .ensures) (c3 .sought .given .1),
+            going-countable (loop .loop .inv .0) (c5 .next-of .ensures) (c3 .sought .given .1) room,
+          ),
         ),
       ),
     )
@@ -188,8 +202,7 @@ graph-returns-4 t c =
 pub graph-list-requires : (t : ℕ) → graph-lts.Need-list-requires (graph-claims t) (graph-at t) graph.Post graph-Inv-loop graph-μ-loop
 graph-list-requires t c κs =
     let c8 = c .before .before .before .before .before .before .before .before in
-    let c19 = c8 .before .before .before .before .before .before .before .before .before .before .before in
-    let entry = c19 .before .before .before .before .before .before .before .before .before .before .before .before in
+    let entry = c8 .before .before .before .before .before .before .before .before .before .before .before .before .before .before .before .before .before .before .before .before .before .before .before in
     (c8 .node .ensures .1 .1 .1 .1 .recalls .both, (c8 .node .ensures .1 .1 .1 .1 .held .fits, entry .pre .1 .0 .short))
 
 pub graph-loop-less : (t : ℕ) → graph-lts.Need-loop-less (graph-claims t) (graph-at t) graph.Post graph-Inv-loop graph-μ-loop
@@ -208,7 +221,7 @@ graph-loop-again t c =
     let c17 = c15 .before .before in
     let loop = c17 .before in (
       going-goes (loop .loop .inv .0) (c17 .next-of .ensures) (c15 .sought .given .1) _ (c11 .node .ensures .0) (c11 .node .ensures .1 .0)
-          (c11 .node .ensures .1 .1 .1 .0) (c11 .node .ensures .1 .1 .0) (c5 .step .given .1),
+          (c11 .node .ensures .1 .1 .1 .0) (nodes-count _ _ _) (c11 .node .ensures .1 .1 .0) (c5 .step .given .1),
       lists-next (loop .loop .inv .1) (c17 .next-of .ensures) (c15 .sought .given .1) (c11 .node .ensures .1 .1 .1 .1) (c2 .list .ensures),
       lists-minds (loop .loop .inv .1) (c17 .next-of .ensures) (c15 .sought .given .1) (loop .loop .inv .2) (c11 .node .ensures .1 .1 .1 .1)
           (c2 .list .ensures),
