@@ -50,11 +50,11 @@ fn node_input(model: &[u8], cells: &[u32], extra: &[u32], ix: Index, used: usize
         return Tally::Counted(0);
     }
     let tally = tested(text, f.place);
-    let Tally::Counted(odd) = tally else {
+    let Tally::Counted(one) = tally else {
         return tally;
     };
     if sees(model, cells, extra, ix, used, text) {
-        return Tally::Counted(odd);
+        return Tally::Counted(one);
     }
     uncounted(Ruling::INPUT_NOT_VISIBLE, f.place)
 }
