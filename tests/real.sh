@@ -43,7 +43,7 @@ answers() {
 # One line for each answer: how often, what, the rule, and the first file that had it.
 histogram() {
     awk -v folder="$1/" '
-        match($0, /: accepted nodes [0-9]+ names [0-9]+ odd [0-9]+$/) { note("accepted") ; next }
+        match($0, /: accepted nodes [0-9]+ names [0-9]+ odd [0-9]+$/) { note("accepted"); if ($NF > 0) odd++; next }
         match($0, /: refused [0-9]+ at [0-9]+( first [0-9]+)?$/) { split(substr($0, RSTART + 2), words, " "); note("refused " words[2]); next }
         /^  rule / && !(last in rule) { sub(/^  rule +/, ""); rule[last] = $0 }
         function note(answer,   file) {
@@ -57,7 +57,7 @@ histogram() {
             for (answer in count)
                 printf "%6d  %-11s %s%s\n", count[answer], answer, (answer in rule ? rule[answer] "; " : ""), "first: " first[answer] | "sort -rn"
             close("sort -rn")
-            printf "%6d  models\n", total
+            printf "%6d  models; %d are accepted with names that are no identifiers\n", total, odd
         }'
 }
 

@@ -1,12 +1,13 @@
 -- Well-formed UTF-8, from RFC 3629: its section 4 says which bytes are well-formed, its section 3 how a character is encoded.
 -- Scalar value, tail and the names UTF8-1 to UTF8-4 are the RFC's terms.
-use Prim.Native.Nat.{ℕ, zero, suc, _+_, _/_, _%_}
+use Prim.Native.Nat.{ℕ, zero, suc, _+_, _-_, _/_, _%_}
 use Prim.Native.String.{String}
 use mathlib.Core.Path.{_≡_, refl}
 use mathlib.Core.Logic.{_↔_}
 use mathlib.Core.Bool.{Bool, true, false, _&&_, _||_}
-use mathlib.Core.List.{List, [], _∷_, map, flatMap}
+use mathlib.Core.List.{List, [], _∷_, _++_, map, flatMap}
 use mathlib.Core.Option.{Option, none, some}
+use lib.ListN.{length, take, replicate}
 use lib.Dec.{T, leb}
 use Rattle.varint.specs.Lists.{within, Lists·computes}
 use Rattle.varint.specs.Bytes.{Bytes}
@@ -158,6 +159,36 @@ strings =
 strings-hold : map (λ s. wellFormed (hex (s .0))) strings ≡ map (λ s. s .1) strings
 unfolding strings Notation·computes Utf8·computes
 strings-hold = refl
+
+-- Every first byte of two and more: how many from which on, and tails that fit.
+firsts : List (ℕ × ℕ × String)
+firsts =
+    (30, 0xC2, "80")
+    ∷ (1, 0xE0, "A0 80")
+    ∷ (12, 0xE1, "80 80")
+    ∷ (1, 0xED, "80 80")
+    ∷ (2, 0xEE, "80 80")
+    ∷ (1, 0xF0, "90 80 80")
+    ∷ (3, 0xF1, "80 80 80")
+    ∷ (1, 0xF4, "80 80 80")
+    ∷ []
+
+from : (count b : ℕ) → List ℕ
+from zero b = []
+from (suc count) b = b ∷ from count (b + 1)
+
+-- With its tails, with one too few, and with one too many.
+tried : (tails : Bytes) → ℕ → Bool × Bool × Bool
+tried tails b = (wellFormed (b ∷ tails), wellFormed (b ∷ take (length tails - 1) tails), wellFormed (b ∷ tails ++ (0x80 ∷ [])))
+
+firsts-hold : flatMap (λ f. map (tried (hex (f .2))) (from (f .0) (f .1))) firsts ≡ replicate 51 (true, false, false)
+unfolding firsts from tried flatMap Notation·computes Utf8·computes
+firsts-hold = refl
+
+-- The others begin no character, whatever follows: the tails, C0 and C1, and F5 to FF.
+others-hold : map (λ b. wellFormed (b ∷ hex "80 80 80")) (from 66 0x80 ++ from 11 0xF5) ≡ replicate 77 false
+unfolding from Notation·computes Utf8·computes
+others-hold = refl
 
 -- The ends of each range of characters, and the examples again.
 characters : List (List ℕ × String)
