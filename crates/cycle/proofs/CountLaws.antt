@@ -23,7 +23,6 @@ use Rattle.messages.specs.Heads.{attributeRules}
 use Rattle.messages.specs.Again.{context, fieldNames, tensorNames, openingNames, nodeRules, opening, closing, attributeAgain, nodeAgain, graphFrom, graphAgain}
 use Rattle.scope.proofs.StepLaws.{grew-few}
 use Rattle.parts.proofs.OpeningLaws.{opening-grew}
-use Rattle.values.specs.declared.tallies.Tally.the-variants as tally
 use Rattle.nodes.proofs.NodeCounts.{attribute-adds, rules-odd}
 use Rattle.nodes.proofs.OutputLaws.{outputs-odd}
 use Rattle.nodes.proofs.ClosingLaws.{closing-odd}
@@ -140,7 +139,8 @@ module _ (model : Bytes) (full : ℕ → Bool) where
         (each (nodeAgain model full nested f) t (allOf Graph·node g)) _
         (each-most (nodeNames model inner) (nodeAgain model full nested f) (node-most f) (allOf Graph·node g) t) (λ u i.
         tells-weaken (λ v. v .odd ≤ u .odd + length (flatMap (valueNames model main) (allOf Graph·output g))) R Any Any
-        (each (output model (context model main)) u (allOf Graph·output g)) (λ v j. omega arith) (λ r _. tt) (outputs-odd model (context model main) (allOf Graph·output g) u)))
+        (each (output model (context model main)) u (allOf Graph·output g)) (λ v j. omega arith) (λ r _. tt)
+        (outputs-odd model (context model main) (allOf Graph·output g) u)))
 
   pub again-most : (left : ℕ) (main : Bool) (w : Walk) (f : Field) → AtMost w (length (namesIn model left main f)) (graphAgain model full left main w f)
   unfolding graphAgain namesIn

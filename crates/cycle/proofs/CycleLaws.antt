@@ -28,7 +28,8 @@ use Rattle.scope.specs.declared.scopes.Step.{Step}
 use Rattle.scope.specs.declared.scopes.Step.the-variants as step
 use Rattle.scope.proofs.StepLaws.{Adder, Counts, Adding, adding-start, adding-done, adding-falls, adding-walked, adding-countable, adding-stops, adding-goes}
 
-pub record Going (model : Bytes) (number end start : ℕ) (names : Field → List Bytes) (rule : Adder) (o : Judged Walk) (first : List ℕ) (p : Progress) (cells : List ℕ) (q : Progress) (c : Cursor) : Type 0 where
+pub record Going (model : Bytes) (number end start : ℕ) (names : Field → List Bytes) (rule : Adder) (o : Judged Walk)
+    (first : List ℕ) (p : Progress) (cells : List ℕ) (q : Progress) (c : Cursor) : Type 0 where
   pub adding : Adding model number end start names rule o first p cells q c
   pub from : start ≤ c .at
   pub inside : c .at ≤ end
@@ -51,7 +52,8 @@ going-start model number names rule first p c h = record {
   few = omega arith;
 }
 
-module _ {model : Bytes} {number end start : ℕ} {names : Field → List Bytes} {rule : Adder} {o : Judged Walk} {first : List ℕ} {p : Progress} {cells : List ℕ} {q : Progress} {c : Cursor}
+module _ {model : Bytes} {number end start : ℕ} {names : Field → List Bytes} {rule : Adder} {o : Judged Walk}
+    {first : List ℕ} {p : Progress} {cells : List ℕ} {q : Progress} {c : Cursor}
     (g : Going model number end start names rule o first p cells q c) where
   pub going-few : q .nodes + start ≤ p .nodes + end
   going-few = let h = g .few in let k = g .inside in omega arith

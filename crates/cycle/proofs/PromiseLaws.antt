@@ -127,7 +127,8 @@ staying model p n e = record { answer = e; grown = omega arith; counts = (let a 
 
 -- ---- the ways out of a loop over the fields of f, where the whole of it answers o
 
-module _ {model : Bytes} {number : ℕ} {names : Field → List Bytes} {rule : Adder} {o : Judged Walk} {first : List ℕ} {p : Progress} {cells : List ℕ} {q : Progress} {c : Cursor} {f : Field}
+module _ {model : Bytes} {number : ℕ} {names : Field → List Bytes} {rule : Adder} {o : Judged Walk}
+    {first : List ℕ} {p : Progress} {cells : List ℕ} {q : Progress} {c : Cursor} {f : Field}
     (g : Going model number (f .next) (f .start) names rule o first p cells q c) {a : Sought} (read : soughtSays a ≡ soughtIn model number (c .end) (c .at)) where
   pub loop-done : {kind : Kind} → Enters model kind p f → a ≡ sought.Missing → {t : Judged Walk} → o ≡ t → Promised model t first cells p f (step.Went q)
   unfolding counted

@@ -28,7 +28,8 @@ module _ {o : Judged Counts} {r : Answer} (checked : meaning r ≡ o) where
   unfolding outcome meaning
   outcome-accepted e = ap outcome (says meaning checked e)
 
-  pub outcome-refused : {q : Refusal} → r ≡ answer.Refused q → record { refusal = q .number; place = q .place; nodes = 0; names = 0; first = q .first; odd = 0 } ≡ outcome o
+  pub outcome-refused : {q : Refusal} → r ≡ answer.Refused q
+      → record { refusal = q .number; place = q .place; nodes = 0; names = 0; first = q .first; odd = 0 } ≡ outcome o
   unfolding outcome meaning
   outcome-refused e = ap outcome (says meaning checked e)
 
@@ -71,6 +72,7 @@ pub none-accepts : (model list : Bytes) (cells : ℕ) → outcome (verdict model
 unfolding outcome contains RefusedProperly
 none-accepts model list cells e = go (verdict model list cells) refl e
   where
-    go : (o : Judged Counts) → verdict model list cells ≡ o → outcome o .refusal ≡ 0 → o ≡ pass (record { nodes = outcome o .nodes; names = outcome o .names; odd = outcome o .odd })
+    go : (o : Judged Counts) → verdict model list cells ≡ o → outcome o .refusal ≡ 0
+        → o ≡ pass (record { nodes = outcome o .nodes; names = outcome o .names; odd = outcome o .odd })
     go (pass c) v z = refl
     go (fail r) v z = absurd (rw z at (refusedProperly model list cells r v .0))

@@ -57,7 +57,8 @@ module _ (model : Bytes) (node f : Field) where
 
       module _ (h : b ≡ false) {y : Bytes} (l : y ≡ bytesOf model Attribute·ref-attr-name (message model f)) where
         unique : (refuse 33 at: f .place when: not (isEmpty y)
-            >> (refuse 32 at: f .place when: badValue (numberOf Attribute·type (message model f)) (message model f) >> pass (more w k))) ≡ attributeRules model node w f
+            >> (refuse 32 at: f .place when: badValue (numberOf Attribute·type (message model f)) (message model f) >> pass (more w k)))
+            ≡ attributeRules model node w f
         unfolding Asked
         unique =
             ap (λ (z : Bytes). refuse 33 at: f .place when: not (isEmpty z)

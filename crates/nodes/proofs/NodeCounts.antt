@@ -101,12 +101,7 @@ module _ (model : Bytes) where
         let two = odds-few (headNames f) in
         tells-weaken (Adds w (odds (headNames f) + odds Inputs)) (λ v. v .odd ≤ w .odd + (2 + length Inputs)) Any Any (nodeRules model graph w f)
         (λ v a. let n = a .3 in omega arith) (λ r _. tt) rules-adds
-
     -- nothing but the count of odd names changes
-    pub rules-still : Tells (λ v. (v .scope ≡ w .scope) × (v .nodes ≡ w .nodes) × (v .most ≡ w .most)) Any (nodeRules model graph w f)
-    rules-still =
-        tells-weaken (Adds w (odds (headNames f) + odds Inputs)) (λ v. (v .scope ≡ w .scope) × (v .nodes ≡ w .nodes) × (v .most ≡ w .most)) Any Any
-        (nodeRules model graph w f) (λ v a. (a .0, a .1, a .2)) (λ r _. tt) rules-adds
 
   pub attribute-adds : (node : Field) (w : Walk) (f : Field)
       → Tells (Adds w (odds (bytesOf model Attribute·name (message model f) ∷ []))) Any (attributeRules model node w f)

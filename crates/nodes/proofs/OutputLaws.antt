@@ -34,7 +34,6 @@ use Rattle.values.proofs.NameLaws.{empty-none, empty-some, named-name, named-pa
 use Rattle.scope.specs.Scope.{walkIn, stepSays, withOdd}
 use Rattle.scope.specs.declared.scopes.Progress.{Progress}
 use Rattle.scope.specs.declared.scopes.Step.{Step}
-use Rattle.scope.specs.declared.scopes.Step.the-variants as step
 use Rattle.scope.proofs.StepLaws.{plain, Counts, odd-walk}
 use Rattle.messages.specs.Again.{fieldNames}
 use Rattle.nodes.proofs.NodeCounts.{seeing}

@@ -89,7 +89,8 @@ module _ (model : Bytes) (full : ℕ → Bool) (k : Context) (cells : List ℕ) 
 -- ---- what it counts
 
 pub input-counts : (model : Bytes) (main : Bool) → Counts (valueNames model main) (λ size. input model (fills size) (plain main))
-input-counts model main size w f = grew-few w 0 (valueNames model main f) (input model (fills size) (plain main) w f) (grew-input model (fills size) (plain main) w f)
+input-counts model main size w f =
+    grew-few w 0 (valueNames model main f) (input model (fills size) (plain main) w f) (grew-input model (fills size) (plain main) w f)
 
 module _ (model : Bytes) (main : Bool) (p : Progress) (f : Field) (room : Countable p (valueNames model main f)) where
   pub input-fits : {j : ℕ} → j ≤ 1 → p .odd + j < 2 ^ 64

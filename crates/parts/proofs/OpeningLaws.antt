@@ -87,7 +87,8 @@ module _ (model : Bytes) (main : Bool) (cells : List ℕ) (p : Progress) (f : Fi
   abbrev Initializers : (size : ℕ) → Walk → Judged Walk
   Initializers size v = each (initializerAgain model (fills size) main f) v (allOf Graph·initializer (message model f))
 
-  opening-by : {o : Judged Walk} → o ≡ graphRules model (walkIn model cells p) f → (o >>= λ w. Inputs (context model main) w >>= Initializers (length cells)) ≡ Opened
+  opening-by : {o : Judged Walk} → o ≡ graphRules model (walkIn model cells p) f
+      → (o >>= λ w. Inputs (context model main) w >>= Initializers (length cells)) ≡ Opened
   unfolding opening
   opening-by e = ap (λ (o : Judged Walk). o >>= λ w. Inputs (context model main) w >>= Initializers (length cells)) e
 
@@ -161,7 +162,8 @@ module _ (model : Bytes) (full : ℕ → Bool) (main : Bool) where
       odds-append (x ∷ ins) values ∙ ap (λ (n : ℕ). n + odds values) (odds-append (x ∷ []) ins) in
       tells-bind (Adds w (odds (x ∷ []))) R Any (graphRules model w f) _ (rules-grew model w f) (λ t h.
       tells-bind (Grew t 0 (odds ins)) R Any (each (input model full (context model main)) t (allOf Graph·input g)) _
-      (names-each (λ v. v) (valueNames model main) (input model full (context model main)) (grew-input model full (context model main)) (allOf Graph·input g) t) (λ v i.
+      (names-each (λ v. v) (valueNames model main) (input model full (context model main)) (grew-input model full (context model main))
+      (allOf Graph·input g) t) (λ v i.
       tells-weaken (Grew v 0 (odds values)) R Any Any (each (initializerAgain model full main f) v (allOf Graph·initializer g))
       (λ u j. (omega arith, omega arith)) (λ r _. tt)
       (names-each (λ u. u) (tensorNames model) (initializerAgain model full main f) (initializer-grew model full main f) (allOf Graph·initializer g) v)))
@@ -184,7 +186,9 @@ module _ (model : Bytes) (main : Bool) (p : Progress) (f : Field) (room : Counta
 
   pub opening-fits : (r : Tally) → ((w : Walk) → tallySays w r ≡ graphRules model w f) → Addable (p .odd) r
   unfolding Countable
-  opening-fits r ruled = countable-adds p r (bytesOf model Graph·name (message model f) ∷ []) (λ l i. rules-few model f ruled i) (let n = lengths in let h = room in omega arith)
+  opening-fits r ruled =
+      countable-adds p r (bytesOf model Graph·name (message model f) ∷ []) (λ l i. rules-few model f ruled i)
+      (let n = lengths in let h = room in omega arith)
 
   module _ (r : Tally) (ruled : (w : Walk) → tallySays w r ≡ graphRules model w f) {n : Step} (stepped : n ≡ counting p r) {t : Progress} (e : n ≡ step.Went t) where
     after-name : (t .used ≡ p .used) × (t .nodes ≡ p .nodes) × (t .odd ≤ p .odd + 1)
@@ -199,7 +203,8 @@ module _ (model : Bytes) (main : Bool) (p : Progress) (f : Field) (room : Counta
 
     -- s is the answer for the inputs, with the cells `later`
     pub opening-values : (cells later : List ℕ) (s : Step)
-        → ((c : Context) → c .main ≡ main → stepSays model later s ≡ each (input model (fills (length cells)) c) (walkIn model cells t) (allOf Graph·input (message model f)))
+        → ((c : Context) → c .main ≡ main
+        → stepSays model later s ≡ each (input model (fills (length cells)) c) (walkIn model cells t) (allOf Graph·input (message model f)))
         → {q : Progress} → s ≡ step.Went q → Countable q Values
     unfolding Countable stepSays walkIn context
     opening-values cells later s answer {q} i =

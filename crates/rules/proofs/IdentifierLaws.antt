@@ -14,7 +14,8 @@ use Rattle.varint.specs.Lists.{within}
 use Rattle.varint.specs.Bytes.{Bytes}
 use Rattle.rules.specs.Identifier.{isLetter, isDigit, word, identifier}
 use Rattle.rules.specs.Utf8.{wellFormed}
-use Rattle.rules.proofs.Utf8Laws.{split, within-above, ascii-at}
+use Rattle.rules.proofs.Utf8Rows.{split, within-above}
+use Rattle.rules.proofs.Utf8Reading.{ascii-at}
 
 -- ---- one byte
 

@@ -125,7 +125,12 @@ judged =
     -- "Shortcuts that let a bad graph through", each beside a good graph
     ∷ (model (graph "x" "" (node "" (body "do" (graph "" "" (node "y" [] "t" ∷ []) "t") ∷ []) "y" ∷ []) "y"), 18, refused 30 42)
     ∷ (model (graph "x" "" (node "" (body "do" (graph "" "" (node "x" [] "t" ∷ []) "t") ∷ []) "y" ∷ []) "y"), 18, accepted 2 2 0)
-    ∷ (model (node "x w" [] "y" ++ held Graph·output (value (ascii "y")) ++ held Graph·initializer (tensor (ascii "w")) ++ held Graph·input (value (ascii "x")) ++ named), 18, accepted 1 3 0)
+    ∷ (
+      model (node "x w" [] "y" ++ held Graph·output (value (ascii "y")) ++ held Graph·initializer (tensor (ascii "w"))
+          ++ held Graph·input (value (ascii "x")) ++ named),
+      18,
+      accepted 1 3 0,
+    )
     ∷ (model (graph "x" "" (node "y" [] "a" ∷ node "x" [] "y" ∷ []) "y"), 18, refused 30 26)
     ∷ (model (graph "x" "" (node "" (body "then" (graph "" "t" [] "t") ∷ body "else" (graph "" "" [] "t") ∷ []) "y" ∷ []) "y"), 18, refused 35 80)
     ∷ (model (graph "x" "" (node "" (body "then" (graph "" "t" [] "t") ∷ body "else" (graph "" "t" [] "t") ∷ []) "y" ∷ []) "y"), 18, accepted 1 2 0)
@@ -142,7 +147,12 @@ judged =
     ∷ (noded (op ++ body "a.b" (graph "" "" [] "") ++ out), 2, accepted 1 1 1)
     ∷ (typed (dim (held Dimension·dim-param (ascii "N"))), 2, accepted 0 1 0)
     ∷ (typed (dim (held Dimension·dim-param (ascii "batch size"))), 2, accepted 0 1 1)
-    ∷ (model (named ++ held Graph·input (value (ascii "x")) ++ held Graph·output (held ValueInfo·name (ascii "x") ++ dim (held Dimension·dim-param (ascii "2N")))), 2, accepted 0 1 1)
+    ∷ (
+      model (named ++ held Graph·input (value (ascii "x"))
+          ++ held Graph·output (held ValueInfo·name (ascii "x") ++ dim (held Dimension·dim-param (ascii "2N")))),
+      2,
+      accepted 0 1 1,
+    )
     -- in a nested graph its names, and not its types
     ∷ (model (graph "x" "" (node "" (body "do" (graph "/i" "/k" [] "/k") ∷ []) "y" ∷ []) "y"), 18, accepted 1 3 3)
     ∷ (model (graph "x" "" (node "" (body "do" (named ++ input "i" (dim (held Dimension·dim-param (ascii "2N")))) ∷ []) "y" ∷ []) "y"), 18, accepted 1 2 0)

@@ -95,5 +95,6 @@ define full w x = do
 
 -- This file and what it is built on, for whoever computes with it.
 unfoldable pub Walk·computes : Unit {0}
-unfolding Identifier·computes Utf8·computes Names·computes nestedIn inMain start withName withNode oddity withTested leaving along visible definedAt tested naming define
+unfolding Identifier·computes Utf8·computes Names·computes nestedIn inMain start withName withNode oddity withTested leaving along visible
+    definedAt tested naming define
 Walk·computes = tt

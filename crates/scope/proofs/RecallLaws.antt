@@ -57,9 +57,6 @@ unfolding known tableOf newest
 recalls-none model seed cells zero = record { memory = record { index = indexed-none model seed 0; same = λ i h. absurd (omega arith) } }
 recalls-none model seed cells (suc n) = record { memory = record { index = indexed-none model seed n; same = λ i h. absurd (omega arith) } }
 
-pub recalls-cleared : (model : Bytes) (seed : ℕ) (cells : List ℕ) {extra : List ℕ} (n : ℕ) → extra ≡ replicate n 0 → Recalls model seed cells extra
-recalls-cleared model seed cells n e = rw e (recalls-none model seed cells n)
-
 -- ---- both parts of the extra cells
 
 module _ {model : Bytes} {ix : Index} where

@@ -48,14 +48,16 @@ abbrev pub Counts : (names : Field → List Bytes) → Adder → Type 0
 Counts names rule = (size : ℕ) (w : Walk) (f : Field) → Tells (λ v. v .odd ≤ w .odd + length (names f)) Any (rule size w f)
 
 -- a loop that began with the cells `first` and at `p`, and has come to `cells`, `q` and the cursor `c`, where the whole of it answers `o`
-pub record Adding (model : Bytes) (number end start : ℕ) (names : Field → List Bytes) (rule : Adder) (o : Judged Walk) (first : List ℕ) (p : Progress) (cells : List ℕ) (q : Progress) (c : Cursor) : Type 0 where
+pub record Adding (model : Bytes) (number end start : ℕ) (names : Field → List Bytes) (rule : Adder) (o : Judged Walk)
+    (first : List ℕ) (p : Progress) (cells : List ℕ) (q : Progress) (c : Cursor) : Type 0 where
   pub along : Along model number end (rule (length first)) o (walkIn model cells q) c
   pub grown : p .used ≤ q .used
   pub kept : Keeps (p .used) first cells
   pub few : q .odd + length (flatMap names (allFrom model number end (c .at))) ≤ p .odd + length (flatMap names (allFrom model number end start))
   pub within : (f : Field) → List·Memᴰ f (allFrom model number end (c .at)) → List·Memᴰ f (allFrom model number end start)
 
-module _ {model : Bytes} {number end start : ℕ} {names : Field → List Bytes} {rule : Adder} {o : Judged Walk} {first : List ℕ} {p : Progress} {cells : List ℕ} {q : Progress} {c : Cursor}
+module _ {model : Bytes} {number end start : ℕ} {names : Field → List Bytes} {rule : Adder} {o : Judged Walk}
+    {first : List ℕ} {p : Progress} {cells : List ℕ} {q : Progress} {c : Cursor}
     (g : Adding model number end start names rule o first p cells q c) {a : Sought} (read : soughtSays a ≡ soughtIn model number (c .end) (c .at)) where
   pub adding-done : a ≡ sought.Missing → (stepSays model cells (step.Went q) ≡ o) × (grows p (step.Went q) × Keeps (p .used) first cells)
   unfolding stepSays grows

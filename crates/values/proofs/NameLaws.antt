@@ -115,7 +115,8 @@ module _ (model : Bytes) (empty number : ℕ) (m : Field) (w : Walk) where
         unfolding _>>=_
         name-bad i = held (sym (untallied w e i) ∙ nonempty)
 
-        pub name-good : {n : ℕ} → c ≡ tally.Counted n → _≡_ {A = Judged (Option Field × Walk)} (pass (some f, more w n)) (nameField model empty number w (message model m))
+        pub name-good : {n : ℕ} → c ≡ tally.Counted n
+            → _≡_ {A = Judged (Option Field × Walk)} (pass (some f, more w n)) (nameField model empty number w (message model m))
         unfolding _>>=_
         name-good {n} i = ap (λ (o : Option Field). pass (o, more w n)) k ∙ held (sym (tallied w e i) ∙ nonempty)
 
@@ -138,7 +139,9 @@ module _ (model : Bytes) (empty number : ℕ) (m : Field) (n : Naming) (e : (w :
   unfolding namingSays nameField _>>=_
   named-first {g} {k} i = go (naming empty start (nameOf model number (message model m))) (says (namingSays start) (e start) i)
     where
-      go : (o : Judged Walk) → _≡_ {A = Judged (Option Field × Walk)} (pass (some g, more start k)) (o >>= λ v. pass (firstOf number (message model m), v)) → some g ≡ firstOf number (message model m)
+      go : (o : Judged Walk)
+          → _≡_ {A = Judged (Option Field × Walk)} (pass (some g, more start k)) (o >>= λ v. pass (firstOf number (message model m), v))
+          → some g ≡ firstOf number (message model m)
       go (pass v) h = ap (λ (p : Option Field × Walk). p .0) (pass-same _ _ h)
       go (fail r) h = absurd (fail-no-pass _ _ (sym h))
 

@@ -59,7 +59,8 @@ dims-few model number end start =
 module _ (model : Bytes) (f : Field) (w : Walk) where
   -- ---- a dim
 
-  pub dim-negative : {n p : ℕ} → n ≡ numberOf Dimension·dim-value (message model f) → p ≡ placeOf Dimension·dim-value (message model f) → 2 ^ 63 ≤ n → refused 38 p ≡ dim model w f
+  pub dim-negative : {n p : ℕ} → n ≡ numberOf Dimension·dim-value (message model f) → p ≡ placeOf Dimension·dim-value (message model f)
+      → 2 ^ 63 ≤ n → refused 38 p ≡ dim model w f
   unfolding dim negative
   dim-negative {n} {p} e k h =
       ap (λ (q : ℕ). refused 38 q) k
@@ -141,7 +142,8 @@ module _ (model : Bytes) (f : Field) (w : Walk) where
     pub tensor-none : none ≡ firstOf TypeProto·tensor (message model g) → refused 24 (g .place) ≡ declaredType model (message model f) w
     tensor-none l = sym (within-type l)
 
-    pub tensor-some : {h : Field} → some h ≡ firstOf TypeProto·tensor (message model g) → tensorType model (message model h) w ≡ declaredType model (message model f) w
+    pub tensor-some : {h : Field} → some h ≡ firstOf TypeProto·tensor (message model g)
+        → tensorType model (message model h) w ≡ declaredType model (message model f) w
     tensor-some l = sym (within-type l)
 
 -- a rule of the main graph alone

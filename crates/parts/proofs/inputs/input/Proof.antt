@@ -46,7 +46,8 @@ counting-requires c κs =
     let c13 = c9 .before .before .before .before in
     let c15 = c13 .before .before in
     let entry = c15 .before .before .before .before in
-    input-adds _ _ _ _ (entry .pre .1 .1 .0) (named-few _ _ _ _ _ (c15 .read-name .ensures) (c13 .name .given .1)) (c9 .with-odd .ensures) _ _ _ _ _ (c8 .define .ensures .0) (c2 .step .given .1) _ (c .main-type .ensures)
+    input-adds _ _ _ _ (entry .pre .1 .1 .0) (named-few _ _ _ _ _ (c15 .read-name .ensures) (c13 .name .given .1)) (c9 .with-odd .ensures)
+    _ _ _ _ _ (c8 .define .ensures .0) (c2 .step .given .1) _ (c .main-type .ensures)
 
 returns-2 : tie.Need-returns-2
 unfolding stepSays grows
@@ -66,7 +67,9 @@ returns-3 c =
     let c16 = c14 .before .before in
     let e = c10 .with-odd .ensures in
     let d = c9 .define .ensures in (
-      λ k i. ap (stepSays _ _) (c .counting .ensures) ∙ input-goes _ _ k _ _ _ _ (c16 .read-name .ensures) (c14 .name .given .1) e _ _ (d .0) (c3 .step .given .1) _ (c1 .main-type .ensures k _ i),
+      λ k i. ap (stepSays _ _) (c .counting .ensures)
+          ∙ input-goes _ _ k _ _ _ _ (c16 .read-name .ensures) (c14 .name .given .1) e _ _ (d .0) (c3 .step .given .1) _
+          (c1 .main-type .ensures k _ i),
       (rw (c .counting .ensures) (input-grows _ _ (odd-grows _ _ e _ (d .1 .0)) (c3 .step .given .1) _), (odd-keeps _ _ e (d .1 .1 .0), d .1 .1 .1)),
     )
 

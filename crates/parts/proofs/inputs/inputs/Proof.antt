@@ -20,8 +20,9 @@ use Rattle.parts.proofs.inputs.inputs.Tie as tie
 
 abbrev Inv-loop : tie.InvT-loop
 Inv-loop model cells₀ extra₀ ix main c₀ q₀ cells extra c q =
-    Adding model Graph·input (c₀ .end) (c₀ .at) (valueNames model main) (λ n. input model (fills n) (plain main)) (each (input model (fills (length cells₀)) (plain main)) (walkIn model
-    cells₀ q₀) (allFrom model Graph·input (c₀ .end) (c₀ .at))) cells₀ q₀ cells q c × Recalled model ix cells extra₀ extra
+    Adding model Graph·input (c₀ .end) (c₀ .at) (valueNames model main) (λ n. input model (fills n) (plain main))
+    (each (input model (fills (length cells₀)) (plain main)) (walkIn model cells₀ q₀) (allFrom model Graph·input (c₀ .end) (c₀ .at)))
+    cells₀ q₀ cells q c × Recalled model ix cells extra₀ extra
 
 abbrev μ-loop : tie.MeasureT-loop
 μ-loop model cells₀ extra₀ ix main c₀ q₀ cells extra c q = c₀ .end - c .at
@@ -55,7 +56,8 @@ input-requires c κs =
       (
         adding-walked (loop .loop .inv .0) (c5 .next-of .ensures) (c3 .sought .given .1) (entry .pre .1 .0) (c7 .contents .ensures) graph-input,
         (
-          adding-countable (loop .loop .inv .0) (c5 .next-of .ensures) (c3 .sought .given .1) (from-contents _ _ _ _ _ (c7 .contents .ensures) (entry .pre .1 .1 .0)),
+          adding-countable (loop .loop .inv .0) (c5 .next-of .ensures) (c3 .sought .given .1)
+              (from-contents _ _ _ _ _ (c7 .contents .ensures) (entry .pre .1 .1 .0)),
           loop .loop .inv .1 .recalls,
         ),
       ),

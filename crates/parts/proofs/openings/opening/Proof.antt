@@ -34,8 +34,8 @@ returns-2 c =
     let c12 = c10 .before .before in
     let c13 = c12 .before in
     let entry = c13 .before .before .before .before in
-    let d = opening-stops _ _ _ _ _ _ (c13 .graph-rules .ensures) (c12 .counting .ensures) (c10 .named .given .1) _ _ (c6 .inputs .ensures .0) (c6 .inputs .ensures .1 .0)
-    (c6 .inputs .ensures .1 .1 .0) (c .enum-told2 .given .1) in
+    let d = opening-stops _ _ _ _ _ _ (c13 .graph-rules .ensures) (c12 .counting .ensures) (c10 .named .given .1) _ _
+    (c6 .inputs .ensures .0) (c6 .inputs .ensures .1 .0) (c6 .inputs .ensures .1 .1 .0) (c .enum-told2 .given .1) in
     (d .0, (d .1 .0, (d .1 .1, minded-recalled (entry .pre .1 .1 .1 .1 .0) (c6 .inputs .ensures .1 .1 .1))))
 
 initializers-requires : tie.Need-initializers-requires
@@ -46,7 +46,8 @@ initializers-requires c κs =
     let c15 = c13 .before .before in
     let c16 = c15 .before in
     let entry = c16 .before .before .before .before in
-    let room = opening-values _ _ _ _ (entry .pre .1 .1 .0) _ (c16 .graph-rules .ensures) (c15 .counting .ensures) (c13 .named .given .1) (entry .args .cells .now) _ _ (c9 .inputs .ensures .0) (c3 .step .given .1) in (
+    let room = opening-values _ _ _ _ (entry .pre .1 .1 .0) _ (c16 .graph-rules .ensures) (c15 .counting .ensures) (c13 .named .given .1)
+    (entry .args .cells .now) _ _ (c9 .inputs .ensures .0) (c3 .step .given .1) in (
       entry .pre .0,
       (
         entry .pre .1 .0,
@@ -56,7 +57,8 @@ initializers-requires c κs =
             c9 .inputs .ensures .1 .1 .1 .recalls,
             (
               inputs-defaultable _ (entry .args .cells .now) _ (c13 .named .given .0 .0) _ _ _ (c9 .inputs .ensures .0) (c3 .step .given .1)
-                  (opening-used _ _ _ _ (entry .pre .1 .1 .0) _ (c16 .graph-rules .ensures) (c15 .counting .ensures) (c13 .named .given .1) (entry .pre .1 .1 .1 .1 .1)),
+                  (opening-used _ _ _ _ (entry .pre .1 .1 .0) _ (c16 .graph-rules .ensures) (c15 .counting .ensures)
+                  (c13 .named .given .1) (entry .pre .1 .1 .1 .1 .1)),
               minded-recalled (entry .pre .1 .1 .1 .1 .0) (c9 .inputs .ensures .1 .1 .1) .held .fits,
             ),
           ),
@@ -73,9 +75,9 @@ returns-3 c =
     let c20 = c18 .before .before in
     let c21 = c20 .before in
     let entry = c21 .before .before .before .before in
-    let d = opening-goes _ _ _ _ _ _ (c21 .graph-rules .ensures) (c20 .counting .ensures) (c18 .named .given .1) _ _ (c14 .inputs .ensures .0) (c14 .inputs .ensures .1 .0)
-    (c14 .inputs .ensures .1 .1 .0) (c8 .step .given .1) _ _ (c4 .initializers .ensures .0) (c4 .initializers .ensures .1 .0)
-    (c4 .initializers .ensures .1 .1 .0) in (
+    let d = opening-goes _ _ _ _ _ _ (c21 .graph-rules .ensures) (c20 .counting .ensures) (c18 .named .given .1) _ _
+    (c14 .inputs .ensures .0) (c14 .inputs .ensures .1 .0) (c14 .inputs .ensures .1 .1 .0) (c8 .step .given .1) _ _
+    (c4 .initializers .ensures .0) (c4 .initializers .ensures .1 .0) (c4 .initializers .ensures .1 .1 .0) in (
       d .0,
       (d .1 .0, (d .1 .1, minded-then (minded-recalled (entry .pre .1 .1 .1 .1 .0) (c14 .inputs .ensures .1 .1 .1)) (c4 .initializers .ensures .1 .1 .1))),
     )

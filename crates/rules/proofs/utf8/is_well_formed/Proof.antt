@@ -1,12 +1,11 @@
 use Prim.Native.Nat.{_-_}
-use native.Mathlib.Omega.{arith}
 use mathlib.Core.Path.{ap}
 use lib.ListN.{length, drop}
 use borrow.Author.Needs.{needs}
 use Rattle.rules.specs.Utf8.{wellFormed, ahead}
 use Rattle.rules.specs.Spelling.{leadSays}
-use Rattle.rules.proofs.Utf8Laws.{Reading, reading-start, reading-end, reading-ascii, reading-no-lead, reading-lead}
-use Rattle.rules.proofs.Utf8Laws.{reading-below, reading-above, reading-tail}
+use Rattle.rules.proofs.Utf8Reading.{Reading, reading-start, reading-end, reading-ascii, reading-no-lead, reading-lead}
+use Rattle.rules.proofs.Utf8Reading.{reading-below, reading-above, reading-tail}
 use Rattle.rules.proofs.utf8.is_well_formed.Statement.{statement}
 use Rattle.rules.proofs.utf8.is_well_formed.Tie as tie
 

@@ -1,7 +1,7 @@
 use native.Mathlib.Omega.{arith}
 use Rattle.rules.specs.Utf8.{ahead, leads}
 use Rattle.rules.specs.Spelling.{leadSays}
-use Rattle.rules.proofs.Utf8Laws.{lead-row, no-row}
+use Rattle.rules.proofs.Utf8Rows.{lead-row, no-row}
 use Rattle.rules.proofs.utf8.lead_of.Statement.{statement}
 use Rattle.rules.proofs.utf8.lead_of.Tie as tie
 

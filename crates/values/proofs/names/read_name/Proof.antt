@@ -29,7 +29,8 @@ returns-3 c =
     let c5 = c4 .before in
     let c7 = c5 .before .before in
     let c9 = c7 .before .before in
-    λ w. name-bad _ _ _ _ w (found _ _ _ _ (c9 .first-of .ensures) (c7 .name .given .1)) (c5 .text .ensures) (c4 .if1 .left) (c3 .tested .ensures w) (c1 .r .given .1)
+    λ w. name-bad _ _ _ _ w (found _ _ _ _ (c9 .first-of .ensures) (c7 .name .given .1)) (c5 .text .ensures) (c4 .if1 .left)
+    (c3 .tested .ensures w) (c1 .r .given .1)
 
 returns-4 : tie.Need-returns-4
 unfolding namingSays
@@ -40,7 +41,8 @@ returns-4 c =
     let c5 = c4 .before in
     let c7 = c5 .before .before in
     let c9 = c7 .before .before in
-    λ w. name-good _ _ _ _ w (found _ _ _ _ (c9 .first-of .ensures) (c7 .name .given .1)) (c5 .text .ensures) (c4 .if1 .left) (c3 .tested .ensures w) (c1 .odd .given .1)
+    λ w. name-good _ _ _ _ w (found _ _ _ _ (c9 .first-of .ensures) (c7 .name .given .1)) (c5 .text .ensures) (c4 .if1 .left)
+    (c3 .tested .ensures w) (c1 .odd .given .1)
 
 pub read-name-spec : {M : Type 1} → statement M
 read-name-spec =

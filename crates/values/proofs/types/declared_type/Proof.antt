@@ -17,7 +17,9 @@ returns-2 c =
     let c3 = c1 .before .before in
     let c5 = c3 .before .before in
     let c7 = c5 .before .before in
-    λ w. c .uncounted2 .ensures w ∙ tensor-none _ _ w (found _ _ _ _ (c7 .first-of .ensures) (c5 .declared .given .1)) (missing _ _ _ _ (c3 .first-of2 .ensures) (c1 .enum-told2 .given .1))
+    λ w. c .uncounted2 .ensures w
+    ∙ tensor-none _ _ w (found _ _ _ _ (c7 .first-of .ensures) (c5 .declared .given .1))
+    (missing _ _ _ _ (c3 .first-of2 .ensures) (c1 .enum-told2 .given .1))
 
 returns-3 : tie.Need-returns-3
 returns-3 c =
@@ -25,7 +27,9 @@ returns-3 c =
     let c4 = c2 .before .before in
     let c6 = c4 .before .before in
     let c8 = c6 .before .before in
-    λ w. c .tensor-type .ensures w ∙ tensor-some _ _ w (found _ _ _ _ (c8 .first-of .ensures) (c6 .declared .given .1)) (found _ _ _ _ (c4 .first-of2 .ensures) (c2 .tensor .given .1))
+    λ w. c .tensor-type .ensures w
+    ∙ tensor-some _ _ w (found _ _ _ _ (c8 .first-of .ensures) (c6 .declared .given .1))
+    (found _ _ _ _ (c4 .first-of2 .ensures) (c2 .tensor .given .1))
 
 pub declared-type-spec : {M : Type 1} → statement M
 declared-type-spec =

@@ -39,7 +39,8 @@ returns-2 c =
     let c6 = c4 .before .before in
     let c7 = c6 .before in
     let c8 = c7 .before in
-    λ w. tallying-stops (c7 .loop .inv) (c6 .next-of .ensures) (c4 .sought .given .1) (λ v h. tt) (λ v h. c2 .dim .ensures v) (c .enum-told2 .given .1) w tt ∙ along-contents _ _ _ _ _ (c8 .contents .ensures)
+    λ w. tallying-stops (c7 .loop .inv) (c6 .next-of .ensures) (c4 .sought .given .1) (λ v h. tt) (λ v h. c2 .dim .ensures v)
+    (c .enum-told2 .given .1) w tt ∙ along-contents _ _ _ _ _ (c8 .contents .ensures)
 
 add-odd : tie.Need-add-odd Inv-loop μ-loop
 unfolding contentsOf

@@ -32,7 +32,9 @@ returns-3 c =
     let c5 = c4 .before in
     let c6 = c5 .before in
     let c7 = c6 .before in
-    λ w. c .dims .ensures w ∙ shape-some _ _ w (c7 .number-of .ensures) (c6 .is-element .ensures) (not-false _ (c5 .if1 .left)) (found _ _ _ _ (c4 .first-of .ensures) (c2 .shape .given .1))
+    λ w. c .dims .ensures w
+    ∙ shape-some _ _ w (c7 .number-of .ensures) (c6 .is-element .ensures) (not-false _ (c5 .if1 .left))
+    (found _ _ _ _ (c4 .first-of .ensures) (c2 .shape .given .1))
 
 pub tensor-type-spec : {M : Type 1} → statement M
 tensor-type-spec =

@@ -16,7 +16,8 @@ use Rattle.scope.proofs.RecallLaws.{minded-none, minded-then, minds-still}
 use Rattle.schema.proofs.Opened.{attribute-body}
 use Rattle.cycle.proofs.CycleLaws.{Going, enters-low, own-contents, going-start, going-falls, going-enters, going-shorter, going-countable}
 use Rattle.cycle.proofs.PromiseLaws.{promised-and, not-main, enters-first}
-use Rattle.cycle.proofs.GraphLaws.{Nested, attribute-fits, attribute-stops, attribute-first, attribute-plain, bodies-countable, bodies-done, bodies-stop, bodies-go}
+use Rattle.cycle.proofs.AttributeLaws.{Nested, attribute-fits, attribute-stops, attribute-first, attribute-plain, bodies-countable}
+use Rattle.cycle.proofs.AttributeLaws.{bodies-done, bodies-stop, bodies-go}
 use Rattle.cycle.proofs.graphs.attribute.Reads as attribute
 use Rattle.cycle.proofs.graphs.+attribute+graph+node.Lts-attribute as attribute-lts
 use Rattle.cycle.proofs.graphs.graph.Reads as graph
@@ -61,12 +62,14 @@ attribute-Inv-loop model cells₀ extra₀ ix l left number c₀ q₀ cells extr
 abbrev pub attribute-μ-loop : attribute-lts.MeasureT-loop
 attribute-μ-loop model cells₀ extra₀ ix l left number c₀ q₀ cells extra c q = c₀ .end - c .at
 
-pub attribute-attribute-head-requires : (t : ℕ) → attribute-lts.Need-attribute-head-requires (attribute-claims t) (attribute-at t) attribute.Post attribute-Inv-loop attribute-μ-loop
+pub attribute-attribute-head-requires : (t : ℕ)
+    → attribute-lts.Need-attribute-head-requires (attribute-claims t) (attribute-at t) attribute.Post attribute-Inv-loop attribute-μ-loop
 attribute-attribute-head-requires t c κs =
     let entry = c .before .before .before .before in
     (entry .pre .1 .1 .0 .recalls .both .fits, entry .pre .1 .1 .1 .0)
 
-pub attribute-counting-requires : (t : ℕ) → attribute-lts.Need-counting-requires (attribute-claims t) (attribute-at t) attribute.Post attribute-Inv-loop attribute-μ-loop
+pub attribute-counting-requires : (t : ℕ)
+    → attribute-lts.Need-counting-requires (attribute-claims t) (attribute-at t) attribute.Post attribute-Inv-loop attribute-μ-loop
 attribute-counting-requires t c κs =
     let entry = c .before .before .before .before .before in
     attribute-fits _ _ _ _ _ _ (c .attribute-head .ensures) (entry .pre .1 .1 .1 .1)
@@ -94,11 +97,14 @@ attribute-returns-2 t c =
 
 pub attribute-loop-holds : (t : ℕ) → attribute-lts.Need-loop-holds (attribute-claims t) (attribute-at t) attribute.Post attribute-Inv-loop attribute-μ-loop
 unfolding contentsOf
-attribute-loop-holds t c = rw (c .contents .ensures) (
-  going-start _ _ _ _ _ _ _ (c .before .before .before .before .before .before .before .before .before .before .before .before .before .before .pre .1 .0 .ends),
-  c .before .before .before .before .before .before .before .before .before .before .before .before .before .before .pre .1 .1 .0,
-  minded-none (c .before .before .before .before .before .before .before .before .before .before .before .before .before .before .pre .1 .1 .0 .recalls) (c .before .before .before .before .before .before .before .before .before .before .before .before .before .before .pre .1 .1 .0 .fits),
-)
+attribute-loop-holds t c =
+    let c9 = c .before .before .before .before .before .before .before .before .before in
+    let entry = c9 .before .before .before .before .before in
+    rw (c .contents .ensures) (
+      going-start _ _ _ _ _ _ _ (entry .pre .1 .0 .ends),
+      entry .pre .1 .1 .0,
+      minded-none (entry .pre .1 .1 .0 .recalls) (entry .pre .1 .1 .0 .fits),
+    )
 
 pub attribute-same-length-3 : (t : ℕ) → attribute-lts.Need-same-length-3 (attribute-claims t) (attribute-at t) attribute.Post attribute-Inv-loop attribute-μ-loop
 attribute-same-length-3 t c =
@@ -144,8 +150,9 @@ attribute-graph-requires t c κs =
     let entry = c16 .before .before .before .before .before in
     let g = rw (c7 .contents .ensures) at (loop .loop .inv .0) in
     let first = attribute-first _ _ _ _ _ (c16 .attribute-head .ensures) (c15 .counting .ensures) (c13 .headed .given .1) in
-    let room = bodies-countable _ _ _ (entry .args .cells .now) _ _ _ (c16 .attribute-head .ensures) (c15 .counting .ensures) (c13 .headed .given .1) (c11 .number-of .ensures)
-    (c10 .carrier-of .ensures) (c9 .is-body .ensures) (not-false _ (c8 .if1 .left)) (entry .pre .1 .1 .1 .1) in (
+    let room = bodies-countable _ _ _ (entry .args .cells .now) _ _ _ (c16 .attribute-head .ensures) (c15 .counting .ensures)
+    (c13 .headed .given .1) (c11 .number-of .ensures) (c10 .carrier-of .ensures) (c9 .is-body .ensures) (not-false _ (c8 .if1 .left))
+    (entry .pre .1 .1 .1 .1) in (
       going-shorter g (c5 .next-of .ensures) (c3 .sought .given .1) (entry .pre .0),
       (
         going-enters g (c5 .next-of .ensures) (c3 .sought .given .1) (entry .pre .1 .0 .short) (entry .pre .1 .0 .walked)

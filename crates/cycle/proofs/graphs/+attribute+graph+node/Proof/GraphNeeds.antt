@@ -20,8 +20,9 @@ use Rattle.parts.proofs.ListsLaws.{Lists, lists-start, lists-fits, lists-found,
 use Rattle.schema.proofs.Opened.{graph-node}
 use Rattle.cycle.proofs.CycleLaws.{Going, own-contents, going-start, going-falls, going-enters, going-shorter, going-countable, going-goes}
 use Rattle.cycle.proofs.PromiseLaws.{promised-and, stopped-counts}
-use Rattle.cycle.proofs.GraphLaws.{Nested, opening-countable, outputs-room, nodes-countable, outputs-fit, nodes-count}
-use Rattle.cycle.proofs.GraphLaws.{graph-deep, graph-unopened, first-low, nodes-stop, nodes-done}
+use Rattle.cycle.proofs.AttributeLaws.{Nested}
+use Rattle.cycle.proofs.GraphLaws.{opening-countable, outputs-room, nodes-countable, outputs-fit, nodes-count, graph-deep}
+use Rattle.cycle.proofs.GraphLaws.{graph-unopened, first-low, nodes-stop, nodes-done}
 use Rattle.cycle.proofs.graphs.graph.Reads as graph
 use Rattle.cycle.proofs.graphs.+attribute+graph+node.Lts-graph as graph-lts
 use Rattle.cycle.proofs.graphs.node.Reads as node
@@ -92,11 +93,14 @@ graph-returns-2 t c =
 
 pub graph-loop-holds : (t : ℕ) → graph-lts.Need-loop-holds (graph-claims t) (graph-at t) graph.Post graph-Inv-loop graph-μ-loop
 unfolding contentsOf
-graph-loop-holds t c = rw (c .contents .ensures) (
-  going-start _ _ _ _ _ _ _ (c .before .before .before .before .before .before .before .before .before .before .before .before .before .before .before .pre .1 .0 .ends),
-  lists-start _ _ _ (c .before .before .before .before .before .before .before .before .opening .ensures .1 .1 .1 .recalls) (c .before .before .before .before .before .before .before .before .opening .ensures .1 .1 .1 .held .fits) _ refl,
-  minds-still (c .before .before .before .before .before .before .before .before .before .before .before .before .before .before .before .pre .1 .1 .0) (c .before .before .before .before .before .before .before .before .opening .ensures .1 .1 .1),
-)
+graph-loop-holds t c =
+    let c8 = c .before .before .before .before .before .before .before .before in
+    let entry = c8 .before .before .before .before .before .before .before in
+    rw (c .contents .ensures) (
+      going-start _ _ _ _ _ _ _ (entry .pre .1 .0 .ends),
+      lists-start _ _ _ (c8 .opening .ensures .1 .1 .1 .recalls) (c8 .opening .ensures .1 .1 .1 .held .fits) _ refl,
+      minds-still (entry .pre .1 .1 .0) (c8 .opening .ensures .1 .1 .1),
+    )
 
 pub graph-graph-outputs-requires : (t : ℕ) → graph-lts.Need-graph-outputs-requires (graph-claims t) (graph-at t) graph.Post graph-Inv-loop graph-μ-loop
 graph-graph-outputs-requires t c κs =
@@ -112,7 +116,8 @@ graph-counting-requires t c κs =
     let c15 = c9 .before .before .before .before .before .before in
     let c18 = c15 .before .before .before in
     let entry = c18 .before .before .before .before in
-    outputs-fit _ _ _ _ _ _ (c18 .if1 .left) _ _ (c15 .opening .ensures .0) (c15 .opening .ensures .1 .1 .0) (c9 .opened .given .1) (c15 .opening .ensures .1 .0) (loop .loop .inv .0) _ (c .graph-outputs .ensures) (entry .pre .1 .1 .1 .1)
+    outputs-fit _ _ _ _ _ _ (c18 .if1 .left) _ _ (c15 .opening .ensures .0) (c15 .opening .ensures .1 .1 .0) (c9 .opened .given .1)
+    (c15 .opening .ensures .1 .0) (loop .loop .inv .0) _ (c .graph-outputs .ensures) (entry .pre .1 .1 .1 .1)
 
 pub graph-same-length-3 : (t : ℕ) → graph-lts.Need-same-length-3 (graph-claims t) (graph-at t) graph.Post graph-Inv-loop graph-μ-loop
 graph-same-length-3 t c =
@@ -155,11 +160,13 @@ graph-node-requires t c κs =
     let c15 = c9 .before .before .before .before .before .before in
     let c18 = c15 .before .before .before in
     let entry = c18 .before .before .before .before in
-    let room = nodes-countable _ _ _ _ _ _ (c18 .if1 .left) _ _ (c15 .opening .ensures .0) (c15 .opening .ensures .1 .1 .0) (c9 .opened .given .1) (entry .pre .1 .1 .1 .1) in (
+    let room = nodes-countable _ _ _ _ _ _ (c18 .if1 .left) _ _ (c15 .opening .ensures .0) (c15 .opening .ensures .1 .1 .0)
+    (c9 .opened .given .1) (entry .pre .1 .1 .1 .1) in (
       going-shorter (loop .loop .inv .0) (c5 .next-of .ensures) (c3 .sought .given .1) (entry .pre .0),
       (
         going-enters (loop .loop .inv .0) (c5 .next-of .ensures) (c3 .sought .given .1) (entry .pre .1 .0 .short) (entry .pre .1 .0 .walked)
-            (own-contents _) graph-node (first-low _ _ _ _ _ _ (c18 .if1 .left) _ _ (c15 .opening .ensures .0) (c15 .opening .ensures .1 .1 .0) (c9 .opened .given .1) (entry .pre .1 .0)),
+            (own-contents _) graph-node (first-low _ _ _ _ _ _ (c18 .if1 .left) _ _ (c15 .opening .ensures .0) (c15 .opening .ensures .1 .1 .0)
+            (c9 .opened .given .1) (entry .pre .1 .0)),
         (
           minds-higher (loop .loop .inv .2) (loop .loop .inv .1 .above) (lists-fits (loop .loop .inv .1)),
           (
@@ -202,7 +209,9 @@ graph-returns-4 t c =
 pub graph-list-requires : (t : ℕ) → graph-lts.Need-list-requires (graph-claims t) (graph-at t) graph.Post graph-Inv-loop graph-μ-loop
 graph-list-requires t c κs =
     let c8 = c .before .before .before .before .before .before .before .before in
-    let entry = c8 .before .before .before .before .before .before .before .before .before .before .before .before .before .before .before .before .before .before .before .before .before .before .before in
+    let loop = c8 .before .before .before .before .before .before .before in
+    let c24 = loop .before .before .before .before .before .before .before .before .before in
+    let entry = c24 .before .before .before .before .before .before .before in
     (c8 .node .ensures .1 .1 .1 .1 .recalls .both, (c8 .node .ensures .1 .1 .1 .1 .held .fits, entry .pre .1 .0 .short))
 
 pub graph-loop-less : (t : ℕ) → graph-lts.Need-loop-less (graph-claims t) (graph-at t) graph.Post graph-Inv-loop graph-μ-loop

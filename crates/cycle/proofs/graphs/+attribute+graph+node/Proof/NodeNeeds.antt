@@ -17,8 +17,9 @@ use Rattle.parts.proofs.ListsLaws.{Lists, lists-start, lists-fits, lists-found,
 use Rattle.schema.proofs.Opened.{node-attribute}
 use Rattle.cycle.proofs.CycleLaws.{Going, enters-low, own-contents, going-start, going-falls, going-enters, going-shorter, going-countable, going-goes}
 use Rattle.cycle.proofs.PromiseLaws.{promised-and, enters-first}
-use Rattle.cycle.proofs.GraphLaws.{Nested, node-inputs-room, node-fits, node-stops, node-first, attributes-countable, closing-countable, attributes-count}
-use Rattle.cycle.proofs.GraphLaws.{attributes-stop, attributes-done, node-low}
+use Rattle.cycle.proofs.AttributeLaws.{Nested}
+use Rattle.cycle.proofs.NodeLaws.{node-inputs-room, node-fits, node-stops, node-first, attributes-countable, closing-countable}
+use Rattle.cycle.proofs.NodeLaws.{attributes-count, attributes-stop, attributes-done, node-low}
 use Rattle.cycle.proofs.graphs.attribute.Reads as attribute
 use Rattle.cycle.proofs.graphs.node.Reads as node
 use Rattle.cycle.proofs.graphs.+attribute+graph+node.Lts-node as node-lts
@@ -79,11 +80,13 @@ node-returns t c =
 
 pub node-loop-holds : (t : ℕ) → node-lts.Need-loop-holds (node-claims t) (node-at t) node.Post node-Inv-loop node-μ-loop
 unfolding contentsOf
-node-loop-holds t c = rw (c .contents .ensures) (
-  going-start _ _ _ _ _ _ _ (c .before .before .before .before .before .before .before .before .before .before .before .pre .1 .0 .ends),
-  lists-start _ _ _ (c .before .before .before .before .before .before .before .before .before .before .before .pre .1 .1 .0 .recalls) (c .before .before .before .before .before .before .before .before .before .before .before .pre .1 .1 .0 .fits) _ refl,
-  c .before .before .before .before .before .before .before .before .before .before .before .pre .1 .1 .0,
-)
+node-loop-holds t c =
+    let entry = c .before .before .before .before .before .before .before .before .before .before .before in
+    rw (c .contents .ensures) (
+      going-start _ _ _ _ _ _ _ (entry .pre .1 .0 .ends),
+      lists-start _ _ _ (entry .pre .1 .1 .0 .recalls) (entry .pre .1 .1 .0 .fits) _ refl,
+      entry .pre .1 .1 .0,
+    )
 
 pub node-closing-requires : (t : ℕ) → node-lts.Need-closing-requires (node-claims t) (node-at t) node.Post node-Inv-loop node-μ-loop
 node-closing-requires t c κs =
@@ -93,7 +96,8 @@ node-closing-requires t c κs =
     let c11 = c10 .before in
     let entry = c11 .before .before .before .before .before .before in
     let first = node-first _ _ _ _ _ _ (c11 .node-rules .ensures) (c10 .counting .ensures) (c8 .headed .given .1) in
-    let room = closing-countable _ _ _ _ _ _ _ (c11 .node-rules .ensures) (c10 .counting .ensures) (c8 .headed .given .1) (loop .loop .inv .0) (entry .pre .1 .1 .1 .1) in
+    let room = closing-countable _ _ _ _ _ _ _ (c11 .node-rules .ensures) (c10 .counting .ensures) (c8 .headed .given .1)
+    (loop .loop .inv .0) (entry .pre .1 .1 .1 .1) in
     let low = node-low (loop .loop .inv .0) (enters-first {first = c8 .headed .given .0 .0} (first .0) (first .1) (entry .pre .1 .0)) in
     (entry .pre .1 .0 .short, (entry .pre .1 .0 .walked, (low, (room, loop .loop .inv .1 .minded .recalls))))
 
@@ -119,9 +123,9 @@ node-returns-2 t c =
     let c15 = c13 .before .before in
     let c16 = c15 .before in
     let entry = c16 .before .before .before .before .before .before in
-    promised-and (attributes-done _ _ _ _ _ _ _ (c16 .node-rules .ensures) (c15 .counting .ensures) (c13 .headed .given .1) (loop .loop .inv .0) (c9 .next-of .ensures)
-    (entry .pre .1 .0) (c7 .enum-told2 .given .1) _ (c4 .closing .ensures .0) (c4 .closing .ensures .1 .0)
-    (c4 .closing .ensures .1 .1 .0))
+    promised-and (attributes-done _ _ _ _ _ _ _ (c16 .node-rules .ensures) (c15 .counting .ensures) (c13 .headed .given .1)
+    (loop .loop .inv .0) (c9 .next-of .ensures) (entry .pre .1 .0) (c7 .enum-told2 .given .1) _ (c4 .closing .ensures .0)
+    (c4 .closing .ensures .1 .0) (c4 .closing .ensures .1 .1 .0))
     (minded-then (loop .loop .inv .1 .minded) (minded-recalled (loop .loop .inv .1 .minded .held .fits) (c4 .closing .ensures .1 .1 .1)))
 
 pub node-attribute-requires : (t : ℕ) → node-lts.Need-attribute-requires (node-claims t) (node-at t) node.Post node-Inv-loop node-μ-loop
@@ -170,15 +174,16 @@ node-returns-3 t c =
     let c16 = loop .before .before .before in
     let c18 = c16 .before .before in
     let c19 = c18 .before in
-    promised-and (attributes-stop _ _ _ _ _ _ _ (c19 .node-rules .ensures) (c18 .counting .ensures) (c16 .headed .given .1) (loop .loop .inv .0) (c12 .next-of .ensures)
-    (c10 .sought .given .1) _ (c6 .attribute .ensures .0) (c6 .attribute .ensures .1 .0) (c6 .attribute .ensures .1 .1 .1 .0)
-    (c .enum-told3 .given .1)) (minded-then (loop .loop .inv .1 .minded)
-    (minded-fewer (loop .loop .inv .1 .above) (c6 .attribute .ensures .1 .1 .1 .1)))
+    promised-and (attributes-stop _ _ _ _ _ _ _ (c19 .node-rules .ensures) (c18 .counting .ensures) (c16 .headed .given .1)
+    (loop .loop .inv .0) (c12 .next-of .ensures) (c10 .sought .given .1) _ (c6 .attribute .ensures .0) (c6 .attribute .ensures .1 .0)
+    (c6 .attribute .ensures .1 .1 .1 .0) (c .enum-told3 .given .1))
+    (minded-then (loop .loop .inv .1 .minded) (minded-fewer (loop .loop .inv .1 .above) (c6 .attribute .ensures .1 .1 .1 .1)))
 
 pub node-list-requires : (t : ℕ) → node-lts.Need-list-requires (node-claims t) (node-at t) node.Post node-Inv-loop node-μ-loop
 node-list-requires t c κs =
     let c8 = c .before .before .before .before .before .before .before .before in
-    let entry = c8 .before .before .before .before .before .before .before .before .before .before .before .before .before .before .before .before .before .before .before in
+    let loop = c8 .before .before .before .before .before .before .before in
+    let entry = loop .before .before .before .before .before .before .before .before .before .before .before .before in
     (c8 .attribute .ensures .1 .1 .1 .1 .recalls .both, (c8 .attribute .ensures .1 .1 .1 .1 .held .fits, entry .pre .1 .0 .short))
 
 pub node-loop-less : (t : ℕ) → node-lts.Need-loop-less (node-claims t) (node-at t) node.Post node-Inv-loop node-μ-loop
