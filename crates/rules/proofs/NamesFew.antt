@@ -1,11 +1,11 @@
 -- A model has few names: fields lie apart, and each takes a byte or more.
 use Prim.Native.Nat.{ℕ, zero, suc, _+_, _-_, _*_, _^_, _≤_, _<_}
 use native.Mathlib.Omega.{arith}
-use mathlib.Core.Path.{_≡_, refl, ap}
+use mathlib.Core.Path.{_≡_, ap}
 use mathlib.Core.Bool.{Bool, true, false}
 use mathlib.Core.List.{List, [], _∷_, _++_, map, flatMap}
 use mathlib.Core.Option.{Option, none, some}
-use lib.ListN.{length, length-append}
+use lib.ListN.{length, length-map, length-append}
 use Rattle.varint.specs.Lists.{keep}
 use Rattle.varint.specs.Bytes.{Bytes}
 use Rattle.varint.proofs.Lists.{If, all-first}
@@ -36,10 +36,6 @@ pub odds-few : (l : List Bytes) → odds l ≤ length l
 unfolding odds
 odds-few l = keep-few isOdd l
 
-mapped : {A B : Type 0} (g : A → B) (l : List A) → length (map g l) ≡ length l
-mapped g [] = refl
-mapped g (a ∷ l) = let h = mapped g l in omega arith
-
 -- ---- fields that lie apart
 
 pub ordered-few : (lo hi : ℕ) (fs : List Field) → Ordered lo hi fs → length fs ≤ hi - lo
@@ -51,7 +47,7 @@ unfolding allFrom
 from-few s number end pos = ordered-few pos end (allFrom s number end pos) (keep-ordered _ pos end (fields s end pos) (fields-ordered s end pos))
 
 map-few : {B : Type 0} (g : Field → B) (lo hi : ℕ) (fs : List Field) → Ordered lo hi fs → length (map g fs) ≤ hi - lo
-map-few g lo hi fs o = let h = mapped g fs in let k = ordered-few lo hi fs o in omega arith
+map-few g lo hi fs o = let h = length-map fs g in let k = ordered-few lo hi fs o in omega arith
 
 -- what so many bytes may hold at most; two pieces hold no more than the two as one
 abbrev Joins : (ℕ → ℕ) → Type 0

@@ -1,8 +1,8 @@
 -- What one reading of a name tells of it.
 use Prim.Native.Nat.{ℕ, _≤_, _<_}
 use native.Mathlib.Omega.{arith}
-use mathlib.Core.Path.{_≡_, refl, sym, ap, ap₂, _∙_}
-use mathlib.Core.Bool.{Bool, true, false, _&&_}
+use mathlib.Core.Path.{_≡_, sym, ap, ap₂, _∙_}
+use mathlib.Core.Bool.{Bool, true, false, _&&_, and-false}
 use mathlib.Core.Option.{Option, none, some}
 use lib.ListN.{length, drop, drop-of-length-le}
 use lib.Dec.{leb}
@@ -21,10 +21,6 @@ oddity-few x = go (identifier x)
     go : (t : Bool) → (elim t as (λ _. ℕ) [ true ↦ 0 | false ↦ 1 ]) ≤ 1
     go true = omega arith
     go false = omega arith
-
-and-false : (t : Bool) → (t && false) ≡ false
-and-false true = refl
-and-false false = refl
 
 module _ (x : Bytes) where
   spelled-by : (w t : Bool) → wellFormed x ≡ w → identifier x ≡ t

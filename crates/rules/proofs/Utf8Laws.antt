@@ -10,6 +10,7 @@ use lib.ListN.{length}
 use lib.Dec.{T}
 use Rattle.varint.specs.Lists.{within}
 use Rattle.varint.specs.Bytes.{Bytes}
+use Rattle.varint.proofs.Lists.{T-true, true-T}
 use Rattle.rules.specs.Utf8.{ahead, leads, announced, octets, wellFormed, scalar, scalars, tail, encode, Utf8True}
 use Rattle.rules.proofs.Utf8Rows.{split, and-both, within-out, scalar-low, scalar-high, scalar-out, encode-1, encode-2, encode-3}
 use Rattle.rules.proofs.Utf8Rows.{encode-4, lead-row, row-of, tail-in, lead-in, ascii-in}
@@ -94,14 +95,12 @@ module _ (rest : Bytes) where
       go (inr h) (inr k) (inr l) (inl s) = absurd (omega arith)
       go (inr h) (inr k) (inr l) (inr s) = in-4 c l (s .1)
 
-and-T : (a b : Bool) → T (a && b) → T a × T b
-and-T true b t = (tt, t)
-and-T false b t = absurd t
-
 characters-in : (cs : List ℕ) → T (scalars cs) → octets 0 0x80 0xBF (flatMap encode cs) ≡ true
 unfolding scalars octets flatMap
 characters-in [] t = refl
-characters-in (c ∷ cs) t = let p = and-T (scalar c) (scalars cs) t in character-in (flatMap encode cs) c (p .0) ∙ characters-in cs (p .1)
+characters-in (c ∷ cs) t =
+    let p = and-both (scalar c) (scalars cs) (T-true (scalar c && scalars cs) t) in
+    character-in (flatMap encode cs) c (true-T (scalar c) (p .0)) ∙ characters-in cs (true-T (scalars cs) (p .1))
 
 -- ---- from bytes to characters
 

@@ -3,7 +3,7 @@ use Prim.Native.Nat.{ℕ, suc, _+_, _-_, _/_, _≤_, _<_}
 use native.Mathlib.Omega.{arith}
 use mathlib.Core.Path.{_≡_, refl, sym, ap, _∙_}
 use mathlib.Core.Logic.{_⊎_, inl, inr}
-use mathlib.Core.Bool.{Bool, true, false, not, _&&_, true≢false}
+use mathlib.Core.Bool.{Bool, true, false, not, _&&_, and-false, true≢false}
 use mathlib.Core.List.{List, [], _∷_, _++_}
 use mathlib.Core.Option.{Option, none, some}
 use lib.ListN.{take, drop}
@@ -33,11 +33,7 @@ within-in lo hi n h k = simp (le-leb lo n h, le-leb n hi k)
 
 pub within-above : (lo hi n : ℕ) → hi < n → within lo hi n ≡ false
 unfolding within
-within-above lo hi n h = ap (λ (t : Bool). leb lo n && t) (lt-leb n hi h) ∙ go (leb lo n)
-  where
-    go : (t : Bool) → (t && false) ≡ false
-    go true = refl
-    go false = refl
+within-above lo hi n h = ap (λ (t : Bool). leb lo n && t) (lt-leb n hi h) ∙ and-false (leb lo n)
 
 pub within-below : (lo hi n : ℕ) → n < lo → within lo hi n ≡ false
 unfolding within
