@@ -1,24 +1,17 @@
-//! Both checks beside those of another clone, in turn in one process: what a change did to their time. The other library is one from before
-//! Req 03: its answer has five numbers, and it refuses names that are no identifiers.
+//! Both checks beside those of another clone, in turn in one process: what a change did to their time. The other library answers as this
+//! one does: it is from Req 03 or later.
 
 use std::hint::black_box;
 use std::time::Duration;
 
+use gate_tests::gate::Answer;
+
 use crate::clock::timed;
 use crate::given::Given;
 use crate::markdown::{head, ratio, table, time};
-use crate::report::{Run, NONE};
+use crate::report::Run;
 use crate::timing::{in_turn, Plan, ONCE};
 use crate::workloads::Workload;
-
-#[repr(C)]
-struct Answer {
-    refusal: u64,
-    place: u64,
-    nodes: u64,
-    names: u64,
-    first: u64,
-}
 
 extern "C" {
     fn before_check(
@@ -58,8 +51,7 @@ pub fn rows(run: &Run, workloads: &[&Workload]) -> String {
     table(&[head(&HEAD)].into_iter().chain(rows).collect::<Vec<_>>(), &[2, 7])
 }
 
-/// Where the plain check would be too long to be called often, it is timed on a quarter. Of a workload with odd names only the times after
-/// are shown: before, the first of these was refused.
+/// Where the plain check would be too long to be called often, it is timed on a quarter.
 fn row(run: &Run, workload: &Workload) -> Vec<String> {
     eprintln!("{}", workload.name);
     let whole = run.given(workload, 1);
@@ -68,11 +60,8 @@ fn row(run: &Run, workload: &Workload) -> Vec<String> {
     let indexed = pair(indexed(&whole), whole.indexed(), run.plan);
     let part = quarter.as_ref().unwrap_or(&whole);
     let plain = pair(plain(part), part.plain(), run.plan);
-    let both = whole.counts.odd == 0;
-    let beside = |[before, after]: [Duration; 2]| if both { ratio(after, before) } else { NONE.to_string() };
-    let shown = |[before, after]: [Duration; 2]| [if both { time(before) } else { NONE.to_string() }, time(after)];
-    let mut row = vec![beside(indexed), beside(plain), workload.name.to_string()];
-    row.extend(shown(indexed).into_iter().chain(shown(plain)));
+    let mut row = vec![ratio(indexed[1], indexed[0]), ratio(plain[1], plain[0]), workload.name.to_string()];
+    row.extend(indexed.into_iter().chain(plain).map(time));
     row.push(if quarter.is_some() { "a quarter" } else { "the whole" }.to_string());
     row
 }
@@ -91,7 +80,7 @@ fn plain(given: &Given) -> impl FnMut() -> Duration + '_ {
         let (taken, answer) = timed(|| unsafe {
             before_check(model.as_ptr(), model.len(), list.as_ptr(), list.len(), cells.as_mut_ptr(), cells.len())
         });
-        expected(&answer, given);
+        given.accepts(answer);
         taken
     }
 }
@@ -114,17 +103,7 @@ fn indexed(given: &Given) -> impl FnMut() -> Duration + '_ {
                 given.seed,
             )
         });
-        expected(&answer, given);
+        given.accepts(answer);
         taken
     }
-}
-
-/// The same two counts, or 21 where a name is odd.
-fn expected(answer: &Answer, given: &Given) {
-    let Answer { refusal, place, nodes, names, first } = *answer;
-    if given.counts.odd > 0 {
-        return assert_eq!(refusal, 21, "the library from before");
-    }
-    let accepted = (0, 0, given.counts.nodes, given.counts.names, 0);
-    assert_eq!((refusal, place, nodes, names, first), accepted, "the library from before");
 }

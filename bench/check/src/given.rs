@@ -32,7 +32,7 @@ impl Given {
         Given { model, list, counts, cells, extra, seed }
     }
 
-    fn accepts(&self, answer: Answer) {
+    pub fn accepts(&self, answer: Answer) {
         assert_eq!(answer.verdict(), Ok(Verdict::Accepted(self.counts)));
     }
 

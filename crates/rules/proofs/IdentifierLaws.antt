@@ -1,62 +1,55 @@
--- Identifiers byte by byte: letters and digits by the tests of the code, and a name as a loop goes through it.
-use Prim.Native.Nat.{ℕ, _+_, _≤_, _<_}
+-- Identifiers byte by byte: the class that a table gives a byte, and a name as a loop goes through it.
+use Prim.Native.Nat.{ℕ, zero, suc, _+_, _≤_, _<_}
 use native.Mathlib.Omega.{arith}
 use native.Mathlib.Numerals.{add-one}
 use mathlib.Core.Path.{_≡_, refl, sym, ap, _∙_}
 use mathlib.Core.Logic.{_⊎_, inl, inr}
-use mathlib.Core.Bool.{Bool, true, false, _&&_, _||_, true≢false}
+use mathlib.Core.Bool.{Bool, true, false, not, _&&_, _||_, true≢false}
 use mathlib.Core.List.{[], _∷_}
 use lib.ListN.{length, getD, drop, drop-of-length-le}
 use lib.Seq.{drop-cons}
-use lib.Dec.{leb}
-use borrow.Author.Tests.{ne-eqb, le-leb, lt-leb}
-use Rattle.varint.specs.Lists.{within}
+use lib.Dec.{eqb, leb}
+use borrow.Author.Tests.{eqb-true, ne-eqb, le-leb, lt-leb}
 use Rattle.varint.specs.Bytes.{Bytes}
 use Rattle.rules.specs.Identifier.{isLetter, isDigit, word, identifier}
+use Rattle.rules.specs.ByteClass.{classOf, byteClass, tabulates}
 use Rattle.rules.specs.Utf8.{wellFormed}
-use Rattle.rules.proofs.Utf8Rows.{split, within-above}
+use Rattle.rules.proofs.Utf8Rows.{and-both, split, within-above}
 use Rattle.rules.proofs.Utf8Reading.{ascii-at}
+
+-- ---- a table
+
+-- One that passes the test has the rule f at each entry.
+pub entry : (f : ℕ → ℕ) (n : ℕ) (table : Bytes) → tabulates f n table ≡ true → (k : ℕ) → k < n → getD table k 0 ≡ f k
+unfolding tabulates
+entry f zero table e k h = absurd (omega arith)
+entry f (suc n) [] e k h = absurd (true≢false (sym e))
+entry f (suc n) (x ∷ more) e zero h = eqb-true x (f 0) (and-both _ _ e .0)
+entry f (suc n) (x ∷ more) e (suc k) h = entry (λ j. f (suc j)) n more (and-both (eqb x (f 0)) _ e .1) k (omega arith)
 
 -- ---- one byte
 
 pub or-true : {t u : Bool} (v : Bool) → t ≡ u → t ≡ true → true ≡ (u || v)
 or-true v e h = rw (← e, h)
 
-pub or-false : {t u v w : Bool} → t ≡ u → t ≡ false → v ≡ w → v ≡ (u || w)
-or-false e h k = rw (← e, h) k
-
-or-none : (t : Bool) → t ≡ t || false
-or-none true = refl
-or-none false = refl
-
 module _ (b : ℕ) where
-  pub letter-below : b < 0x41 → false ≡ isLetter b
-  unfolding isLetter within
-  letter-below h = simp (lt-leb 0x41 b h, lt-leb 0x61 b (omega arith), ne-eqb b 0x5F (λ e. omega arith))
+  pub class-letter : eqb (byteClass b) 0x61 ≡ isLetter b
+  unfolding byteClass classOf
+  class-letter = go (isLetter b) (isDigit b)
+    where
+      go : (letter digit : Bool) → eqb (classOf letter digit) 0x61 ≡ letter
+      go true digit = refl
+      go false true = refl
+      go false false = refl
 
-  pub letter-upper : 0x41 ≤ b → b ≤ 0x5A → true ≡ isLetter b
-  unfolding isLetter within
-  letter-upper h k = simp (le-leb 0x41 b h, le-leb b 0x5A k)
-
-  pub letter-line : b ≡ 0x5F → true ≡ isLetter b
-  unfolding isLetter within
-  letter-line h = rw h
-
-  pub letter-between : 0x5A < b → (b ≡ 0x5F → ⊥) → b < 0x61 → false ≡ isLetter b
-  unfolding isLetter within
-  letter-between h k l = simp (le-leb 0x41 b (omega arith), lt-leb b 0x5A h, lt-leb 0x61 b l, ne-eqb b 0x5F k)
-
-  pub letter-lower : 0x61 ≤ b → leb b 0x7A ≡ isLetter b
-  unfolding isLetter within
-  letter-lower h = simp (le-leb 0x41 b (omega arith), lt-leb b 0x5A (omega arith), le-leb 0x61 b h, ne-eqb b 0x5F (λ e. omega arith)) (or-none (leb b 0x7A))
-
-  pub digit-below : b < 0x30 → false ≡ isDigit b
-  unfolding isDigit within
-  digit-below h = simp (lt-leb 0x30 b h)
-
-  pub digit-rest : 0x30 ≤ b → leb b 0x39 ≡ isDigit b
-  unfolding isDigit within
-  digit-rest h = simp (le-leb 0x30 b h)
+  pub class-part : not (eqb (byteClass b) 0x2E) ≡ (isLetter b || isDigit b)
+  unfolding byteClass classOf
+  class-part = go (isLetter b) (isDigit b)
+    where
+      go : (letter digit : Bool) → not (eqb (classOf letter digit) 0x2E) ≡ (letter || digit)
+      go true digit = refl
+      go false true = refl
+      go false false = refl
 
   byte-ascii : (isLetter b || isDigit b) ≡ true → b < 0x80
   unfolding isLetter isDigit

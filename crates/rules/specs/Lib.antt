@@ -1,4 +1,5 @@
 pub mod Identifier
+pub mod ByteClass
 pub mod Utf8
 pub mod Names
 pub mod Walk
