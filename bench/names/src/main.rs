@@ -1,16 +1,19 @@
 //! The proved test of a name beside a loop in Rust, and beside the proved test of another clone, timed in one process.
+//! With a folder the names of the models below it are timed too.
+mod models;
 mod sides;
 
 use std::hint::black_box;
+use std::io;
+use std::path::Path;
 use std::time::{Duration, Instant};
 
 use gate_tests::rng::Rng;
 use sides::{Side, SIDES};
 
-/// Enough that no branch predictor learns them by heart.
 const NAMES: usize = 20_000;
 const LENGTHS: [usize; 3] = [5, 20, 60];
-const RUNS: usize = 50;
+const RUNS: usize = 500;
 const HELD: usize = 1_000_000;
 
 const LETTERS: &[u8] = b"abcdefghijklmnopqrstuvwxyz";
@@ -104,7 +107,26 @@ fn best(names: &[Vec<u8>]) -> Vec<f64> {
     best.iter().map(|taken| taken.as_secs_f64() * 1e9 / names.len() as f64).collect()
 }
 
-fn main() {
+/// A line of the table.
+fn compare(kind: &str, length: &str, names: &[Vec<u8>]) {
+    let taken = best(names);
+    let times: String = taken.iter().map(|time| format!("{time:9.2}")).collect();
+    let ratios: String = taken[1..].iter().map(|other| format!("{:8.2}", taken[0] / other)).collect();
+    println!("{kind:38}{length:>7}{times}   {ratios}");
+}
+
+/// The names in models that someone exported.
+fn compare_models(folder: &str) -> io::Result<()> {
+    let (models, names) = models::names(Path::new(folder))?;
+    let mut lengths: Vec<_> = names.iter().map(Vec::len).collect();
+    lengths.sort();
+    let mean = lengths.iter().sum::<usize>() as f64 / lengths.len() as f64;
+    compare(&format!("the {} names of {models} models", names.len()), &format!("{mean:.1}"), &names);
+    println!("\nOf the names of models half have at most {} bytes; {mean:.1} is the mean.", lengths[lengths.len() / 2]);
+    Ok(())
+}
+
+fn main() -> io::Result<()> {
     check();
     let sides: String = SIDES.iter().map(|(side, _)| format!("{side:>9}")).collect();
     println!("ns for a name                           bytes{sides}   proved ÷ Rust, before");
@@ -112,10 +134,11 @@ fn main() {
     for (kind, make) in KINDS {
         for length in LENGTHS {
             let names: Vec<_> = (0..NAMES).map(|_| make(&mut rng, length)).collect();
-            let taken = best(&names);
-            let times: String = taken.iter().map(|time| format!("{time:9.2}")).collect();
-            let ratios: String = taken[1..].iter().map(|other| format!("{:8.2}", taken[0] / other)).collect();
-            println!("{kind:38}{length:7}{times}   {ratios}");
+            compare(kind, &length.to_string(), &names);
         }
+    }
+    match std::env::args().nth(1) {
+        Some(folder) => compare_models(&folder),
+        None => Ok(()),
     }
 }
