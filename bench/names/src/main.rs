@@ -19,6 +19,7 @@ const HELD: usize = 1_000_000;
 const LETTERS: &[u8] = b"abcdefghijklmnopqrstuvwxyz";
 const DIGITS: &[u8] = b"0123456789";
 const WORDS: &[u8] = b"abcdefghijklmnopqrstuvwxyzABCDEFGHIJKLMNOPQRSTUVWXYZ_0123456789";
+/// So many of these can begin an identifier.
 const STARTS: usize = 53;
 
 /// How a name is made that has so many bytes.
@@ -31,12 +32,10 @@ const KINDS: [(&str, Make); 3] = [
 ];
 
 fn numbered(rng: &mut Rng, length: usize) -> Vec<u8> {
-    let letter = |rng: &mut Rng| *rng.pick(LETTERS);
-    let digit = |rng: &mut Rng| *rng.pick(DIGITS);
     let half = length / 2;
-    let mut name: Vec<u8> = (0..half).map(|_| letter(rng)).collect();
+    let mut name: Vec<u8> = (0..half).map(|_| *rng.pick(LETTERS)).collect();
     name.push(b'_');
-    name.extend((half + 1..length).map(|_| digit(rng)));
+    name.extend((half + 1..length).map(|_| *rng.pick(DIGITS)));
     name
 }
 
@@ -111,13 +110,16 @@ fn best(names: &[Vec<u8>]) -> Vec<f64> {
 fn compare(kind: &str, length: &str, names: &[Vec<u8>]) {
     let taken = best(names);
     let times: String = taken.iter().map(|time| format!("{time:9.2}")).collect();
-    let ratios: String = taken[1..].iter().map(|other| format!("{:8.2}", taken[0] / other)).collect();
-    println!("{kind:38}{length:>7}{times}   {ratios}");
+    let ratios: String = taken[1..].iter().map(|other| format!("{:10.2}", taken[0] / other)).collect();
+    println!("{kind:38}{length:>7}{times}{ratios}");
 }
 
 /// The names in models that someone exported.
 fn compare_models(folder: &str) -> io::Result<()> {
     let (models, names) = models::names(Path::new(folder))?;
+    if names.is_empty() {
+        return Err(io::Error::other(format!("no names below {folder}")));
+    }
     let mut lengths: Vec<_> = names.iter().map(Vec::len).collect();
     lengths.sort();
     let mean = lengths.iter().sum::<usize>() as f64 / lengths.len() as f64;
@@ -129,7 +131,8 @@ fn compare_models(folder: &str) -> io::Result<()> {
 fn main() -> io::Result<()> {
     check();
     let sides: String = SIDES.iter().map(|(side, _)| format!("{side:>9}")).collect();
-    println!("ns for a name                           bytes{sides}   proved ÷ Rust, before");
+    let ratios: String = SIDES[1..].iter().map(|(side, _)| format!("{:>10}", format!("÷ {side}"))).collect();
+    println!("{:38}{:>7}{sides}{ratios}", "ns for a name", "bytes");
     let mut rng = Rng::new(2);
     for (kind, make) in KINDS {
         for length in LENGTHS {
