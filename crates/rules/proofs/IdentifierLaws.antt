@@ -29,7 +29,7 @@ entry f (suc n) (x ∷ more) e (suc k) h = entry (λ j. f (suc j)) n more (and-b
 
 -- ---- one byte
 
-pub or-true : {t u : Bool} (v : Bool) → t ≡ u → t ≡ true → true ≡ (u || v)
+or-true : {t u : Bool} (v : Bool) → t ≡ u → t ≡ true → true ≡ (u || v)
 or-true v e h = rw (← e, h)
 
 module _ (b : ℕ) where
