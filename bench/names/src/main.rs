@@ -114,7 +114,7 @@ fn compare(kind: &str, length: &str, names: &[Vec<u8>]) {
     println!("{kind:38}{length:>7}{times}{ratios}");
 }
 
-/// The names in models that someone exported.
+/// The names in the models below a folder.
 fn compare_models(folder: &str) -> io::Result<()> {
     let (models, names) = models::names(Path::new(folder))?;
     if names.is_empty() {

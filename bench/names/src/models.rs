@@ -1,4 +1,4 @@
-//! The names of real models, in the order in which a check tests them.
+//! The names of models in files that a check would test, in wire order.
 
 use std::fs;
 use std::io;
