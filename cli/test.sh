@@ -43,13 +43,13 @@ expect() {
 # the same of the command
 try() { expect "$1" "$2" "$3" "$gate" "${@:4}"; }
 
-for part in answers sizes words files pass gate install; do
+for part in answers versions sizes words files pass gate install; do
     # shellcheck source=/dev/null
     . "$root/cli/tests/$part.sh"
 done
 
 in_folder() { mkdir "$work/$1" && cd "$work/$1" && "$@"; }
 in_folder test_answers "$@"
-for part in sizes words files pass gate install; do in_folder "test_$part"; done
+for part in versions sizes words files pass gate install; do in_folder "test_$part"; done
 echo "$passed passed, $failed failed"
 [ "$failed" -eq 0 ]

@@ -162,6 +162,29 @@ def exported():
         graph_output("y", dims=("batch-size", 4))))
 
 
+def defaults_only(own="gain"):
+    """As exporters wrote at IR version 3: every weight is an input too, and the initializer its default, in the Loop's body as well. `own`
+    names the body's initializer."""
+    weights = {"turns": (INT64, (), 8), "start": (FLOAT, (4,), 16), "decay": (FLOAT, (4,), 16)}
+    step = graph(
+        "step",
+        graph_input("i", elem_type=INT64, dims=()), graph_input("going", elem_type=BOOL, dims=()),
+        graph_input("state", dims=(4,)), graph_input("gain", dims=(4,)),
+        initializer(own, dims=(4,), raw=bytes(16)),
+        node("Mul", ["state", "gain"], ["next"], name="scale"),
+        node("Identity", ["going"], ["still_going"]),
+        graph_output("still_going", elem_type=BOOL, dims=()), graph_output("next", dims=(4,)))
+    return model(graph(
+        "torch-jit-export",
+        graph_input("x", dims=(4,)),
+        *(graph_input(name, elem_type=kind, dims=dims) for name, (kind, dims, _) in weights.items()),
+        *(initializer(name, kind, dims, bytes(size)) for name, (kind, dims, size) in weights.items()),
+        node("Loop", ["turns", "", "start"], ["end"], body("body", step), name="over_words"),
+        node("Mul", ["end", "decay"], ["faded"]),
+        node("Add", ["faded", "x"], ["y"]),
+        graph_output("y", dims=(4,))), ir_version=3)
+
+
 LATIN_1 = "première".encode("latin-1")
 RELU = node("Relu", ["h"], ["y"], name="relu1")
 DENSE = node("MatMul", ["x", "w"], ["h"], name="dense1")
@@ -171,6 +194,7 @@ MODELS = {
     "ok-network": model(chain()),
     "ok-default-value": model(chain(inputs=[graph_input("x"), graph_input("w", dims=(4, 4))])),
     "ok-exported-names": exported(),
+    "ok-ir-3-defaults": defaults_only(),
     "ok-padded-ints": model(
         layer(node("Transpose", ["x"], ["y"], part(1, "perm") + part(8, padded(1, 2) + padded(0, 3)) + number(20, INTS)))),
     "ok-classifier": model(
@@ -185,7 +209,7 @@ MODELS = {
     "09-padded-tag": model(chain(), imports=part(8, padded(2 << 3, 2) + varint(13))),
     "09-padded-value": model(
         layer(node("Softmax", ["x"], ["y"], part(1, "axis") + varint(3 << 3) + padded(1, 2) + number(20, INT)))),
-    "10-old-ir-version": model(chain(), ir_version=3),
+    "10-old-ir-version": model(chain(), ir_version=2),
     "10-empty": b"",
     "11-no-graph": number(1, 8) + imported(),
     "12-no-opset": model(chain(), imports=b""),
@@ -216,6 +240,8 @@ MODELS = {
     "35-output-missing": model(layer(DENSE)),
     "37-no-shape": model(chain(inputs=[part(11, part(1, "x") + part(2, part(1, number(1, FLOAT))))])),
     "38-negative-dimension": model(chain(inputs=[graph_input("x", dims=(-1, 4))])),
+    "43-initializer-not-input": model(chain(), ir_version=3),
+    "43-outer-name": defaults_only(own="decay"),
 }
 
 

@@ -1,10 +1,9 @@
 #!/usr/bin/env bash
 # Real models through the command: what onnx-gate answers to each *.onnx below a folder, as a histogram. Not part of the gate.
 #
-#   tests/real.sh [--lift-ir] [FOLDER] [-- OPTIONS of onnx-gate check]
+#   tests/real.sh [FOLDER] [-- OPTIONS of onnx-gate check]
 #
 # FOLDER: by default that of Debian's libonnx-testdata (apt-get install libonnx-testdata).
-# --lift-ir: models of IR version 3 are checked as copies that say 4, to see what else they would meet.
 # ONNX_GATE names the command; by default it is the one that ./gate builds.
 set -eu
 unset CDPATH
@@ -19,17 +18,6 @@ fail() {
 # Where the package's models are; empty where it is not installed.
 testdata() {
     dpkg -L libonnx-testdata 2>/dev/null | grep -m 1 '/data$' || true
-}
-
-# A copy of the folder's models, those that begin with ir_version 3 changed to 4: `08 03`, as every exporter writes it.
-lifted() {
-    local model copy
-    (cd "$1" && find . -name '*.onnx' -print0) | while IFS= read -r -d '' model; do
-        copy=$2/$model
-        mkdir -p "$(dirname "$copy")"
-        cp "$1/$model" "$copy"
-        [ "$(head -c 2 "$copy" | od -An -tx1)" != " 08 03" ] || printf '\x08\x04' | dd of="$copy" conv=notrunc status=none
-    done
 }
 
 # The command's answers. Status 1 says that some were refused, which is no failure here.
@@ -61,8 +49,6 @@ histogram() {
         }'
 }
 
-lift=no
-[ "${1:-}" != --lift-ir ] || { lift=yes; shift; }
 folder=
 case ${1:---} in --) ;; *) folder=$1; shift ;; esac
 [ "${1:-}" != -- ] || shift
@@ -71,11 +57,5 @@ folder=${folder:-$(testdata)}
 [ -d "$folder" ] || fail "$folder: no such folder"
 [ -x "$command" ] || fail "$command: no such command (./gate builds it, or ONNX_GATE names another)"
 [ -n "$(find "$folder" -name '*.onnx' -print -quit)" ] || fail "no *.onnx below $folder"
-if [ "$lift" = yes ]; then
-    copies=$(mktemp -d)
-    trap 'rm -rf "$copies"' EXIT
-    lifted "$folder" "$copies"
-    folder=$copies
-fi
 answers "$folder" "$command" check "$@" | histogram "$folder"
 [ "${PIPESTATUS[0]}" = 0 ] || fail "some models could not be read"

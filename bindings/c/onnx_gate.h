@@ -46,8 +46,8 @@ struct onnx_gate_answer {
 };
 
 /* The refusals. Of several that apply the first is told: 65, which is for onnx_gate_check_indexed only; 7; 8; the first of 1 to 6
- * and 9 in the order of the bytes, of a tag as 1, 2, 9, 3, 4, 5 and of the value or length behind it as 1, 2, 9, 1, 6; then 10 to 40,
- * as document 01 orders them. */
+ * and 9 in the order of the bytes, of a tag as 1, 2, 9, 3, 4, 5 and of the value or length behind it as 1, 2, 9, 1, 6; then 10 to 43,
+ * as document 01 orders them; 43 is tested after 21 and before 23. */
 enum onnx_gate_refusal {
     ONNX_GATE_ACCEPTED = 0,
     ONNX_GATE_PAST_END = 1,             /* a varint, value or length runs past the end of its message */
@@ -59,7 +59,7 @@ enum onnx_gate_refusal {
     ONNX_GATE_MODEL_TOO_LARGE = 7,      /* the model has more than 2,147,483,647 bytes */
     ONNX_GATE_LIST_UNSOUND = 8,         /* the operator list is not in its format, or has a domain twice */
     ONNX_GATE_PADDED = 9,               /* a tag, value or length is padded: a varint of more than one byte that ends in 0 */
-    ONNX_GATE_BAD_IR_VERSION = 10,      /* ir_version must be 4 to 10 */
+    ONNX_GATE_BAD_IR_VERSION = 10,      /* ir_version must be 3 to 11 */
     ONNX_GATE_NO_GRAPH = 11,            /* the model has no graph */
     ONNX_GATE_NO_OPSET_IMPORT = 12,     /* the model has no opset_import */
     ONNX_GATE_IMPORTED_TWICE = 13,      /* a domain is imported twice (the empty domain is ai.onnx) */
@@ -86,6 +86,7 @@ enum onnx_gate_refusal {
     ONNX_GATE_NO_SHAPE = 37,            /* a tensor type of the main graph must have a shape */
     ONNX_GATE_NEGATIVE_DIM = 38,        /* a dim_value is negative */
     ONNX_GATE_CELLS_FULL = 40,          /* more names are visible together than fit in the cells, two for each */
+    ONNX_GATE_INITIALIZER_NOT_INPUT = 43, /* at IR version 3 an initializer must bear the name of an input of its own graph */
     ONNX_GATE_TOO_FEW_EXTRA = 65        /* a program lent the indexed check fewer extra cells than four times its cells */
 };
 
@@ -116,10 +117,10 @@ struct onnx_gate_answer onnx_gate_check(const uint8_t *model, size_t model_lengt
  *
  * How many extra cells: 4 * cells_length, or 4 * (cells_length / 2) + 2 + 4 * R where that is more, make everything linear in the
  * model's length. 4 * (cells_length / 2) + 1 of them index the visible names, and the lists have the others. R is the most names of
- * lists that are open at once: imports with a domain that is not empty, initializers of the main graph, named nodes of the graphs
- * that are open, attributes of the nodes that are open. With fewer than that, a list that does not fit is read again for each name in
- * it: the same answer, later. All cells of both kinds are cleared in each call, so that far more of them than needed cost time as
- * well.
+ * lists that are open at once: imports with a domain that is not empty, initializers of the main graph, or at IR version 3 of the
+ * innermost graph that is open, named nodes of the graphs that are open, attributes of the nodes that are open. With fewer than that,
+ * a list that does not fit is read again for each name in it: the same answer, later. All cells of both kinds are cleared in each
+ * call, so that far more of them than needed cost time as well.
  *
  * How much memory: never are more than model_length / 3 names visible, and R is never more than model_length / 7. A name takes 8
  * bytes of cells and 32 of extra cells, in which R has room as well as long as it is less than the names. That comes to 13.4 bytes for

@@ -21,6 +21,12 @@
 #define BODY(graph, output)                                                                                                        \
     "\x0A\x1B\x12\x01" "a\x22\x01\x58\x2A\x13\x0A\x01k\x32\x0B\x12\x01" graph WRITES(output) "\xA0\x01\x05"
 #define WITH_BODY BODY("h", "b")
+/* M0 at another IR version with more in its graph; and a node with a body that has more than its name, with the lengths of these */
+#define AT(version, length, more) "\x08" version "\x42\x02\x10\x0D\x3A" length "\x12\x01\x67" more
+#define HOLDS(node, attribute, graph, more)                                                                                        \
+    "\x0A" node "\x12\x00\x22\x01\x58\x2A" attribute "\x0A\x01k\x32" graph "\x12\x01h" more "\xA0\x01\x05"
+#define HOLDS_TENSOR(name) HOLDS("\x19", "\x12", "\x0A", TENSOR(name))
+#define HOLDS_DEFAULT HOLDS("\x1E", "\x17", "\x0F", "\x5A\x03\x0A\x01i" TENSOR("i"))
 /* an input of the main graph whose one dim has this dim_param, and the lengths that this makes */
 #define DIM(input, type, tensor, shape, dim, named)                                                                                \
     "\x5A" input "\x0A\x01w\x12" type "\x0A" tensor "\x08\x01\x12" shape "\x0A" dim "\x12" named
@@ -79,7 +85,24 @@ static const struct sample {
     {BYTES(OF_GRAPH("\x30", WITH_BODY WRITES("b") WRITES("b"))), BYTES(L), 4, {23, 50, 0, 0, 42, 0}},
     {BYTES(OF_GRAPH("\x30", WITH_BODY WRITES("b") WRITES("b"))), BYTES(L), 3, {40, 42, 0, 0, 0, 0}},
     {BYTES(OF_GRAPH("\x28", WRITES("b") WITH_BODY)), BYTES(L), 2, {23, 39, 0, 0, 13, 0}},
-    {BYTES("\x08\x03\x42\x02\x10\x0D\x3A\x03\x12\x01\x67"), BYTES(L), 0, {10, 0, 0, 0, 0, 0}},
+    {BYTES(AT("\x02", "\x03", "")), BYTES(L), 0, {10, 0, 0, 0, 0, 0}},
+    {BYTES(AT("\x03", "\x03", "")), BYTES(L), 0, {0, 0, 0, 0, 0, 0}},
+    {BYTES(AT("\x0B", "\x03", "")), BYTES(L), 0, {0, 0, 0, 0, 0, 0}},
+    {BYTES(AT("\x0C", "\x03", "")), BYTES(L), 0, {10, 0, 0, 0, 0, 0}},
+    /* at version 3 an initializer bears the name of an input of its own graph, in a body too; later a body has no defaults */
+    {BYTES(AT("\x03", "\x0A", TENSOR("w"))), BYTES(L), 2, {43, 13, 0, 0, 0, 0}},
+    {BYTES(AT("\x04", "\x0A", TENSOR("w"))), BYTES(L), 2, {0, 0, 0, 1, 0, 0}},
+    {BYTES(AT("\x03", "\x0A", TENSOR("w"))), BYTES(L), 0, {43, 13, 0, 0, 0, 0}},
+    {BYTES(AT("\x03", "\x17", INPUT("w") TENSOR("w"))), BYTES(L), 2, {0, 0, 0, 1, 0, 0}},
+    {BYTES(AT("\x03", "\x1E", INPUT("w") TENSOR("w") TENSOR("w"))), BYTES(L), 2, {23, 33, 0, 0, 13, 0}},
+    {BYTES(AT("\x03", "\x1E", HOLDS_TENSOR("w"))), BYTES(L), 2, {43, 30, 0, 0, 0, 0}},
+    {BYTES(AT("\x04", "\x1E", HOLDS_TENSOR("w"))), BYTES(L), 2, {0, 0, 1, 1, 0, 0}},
+    {BYTES(AT("\x03", "\x2B", INPUT("w") HOLDS_TENSOR("w"))), BYTES(L), 2, {43, 43, 0, 0, 0, 0}},
+    {BYTES(AT("\x04", "\x2B", INPUT("w") HOLDS_TENSOR("w"))), BYTES(L), 2, {23, 43, 0, 0, 13, 0}},
+    {BYTES(AT("\x03", "\x23", HOLDS_DEFAULT)), BYTES(L), 2, {0, 0, 1, 1, 0, 0}},
+    {BYTES(AT("\x03", "\x23", HOLDS_DEFAULT)), BYTES(L), 1, {40, 30, 0, 0, 0, 0}},
+    {BYTES(AT("\x04", "\x23", HOLDS_DEFAULT)), BYTES(L), 2, {23, 35, 0, 0, 30, 0}},
+    {BYTES("\x42\x02\x10\x0D\x3A\x23\x12\x01\x67" HOLDS_DEFAULT "\x08\x03"), BYTES(L), 2, {0, 0, 1, 1, 0, 0}},
     {BYTES("\x08\x08\x42\x02\x10\x16\x3A\x03\x12\x01\x67"), BYTES(L), 0, {14, 2, 0, 0, 0, 0}},
     {BYTES(M0), BYTES("\x00\x00\x00\x01\x01"), 0, {14, 2, 0, 0, 0, 0}},
     {BYTES(M0), BYTES("\x00\x00\x00\x01\x02"), 0, {8, 0, 0, 0, 0, 0}},

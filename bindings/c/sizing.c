@@ -83,7 +83,7 @@ static int count_field(struct count *count, enum message message, const struct f
     case WHERE(NODE, 5):
         count->need.lists += entry;
         return count_message(count, ATTRIBUTE, field->start, field->end, depth);
-    case WHERE(GRAPH, 5):
+    case WHERE(GRAPH, 5): /* those of a body are a list at IR version 3 only, and count at every version */
         count->need.names++;
         count->need.lists += entry;
         return 1;

@@ -20,6 +20,11 @@
 #define TENSOR "\x2A\x05\x42\x01w\x10\x01"
 #define OF_NODE "\x0A\x01i\x12\x01" "a\x12\x01" "b\x12\x00\x1A\x01n\x22\x01X\x2A\x06\x0A\x01k\xA0\x01\x02"
 #define SOUND "\x08\x08\x42\x02\x10\x0D\x3A\x32\x12\x01g" INPUT TENSOR "\x0A\x19" OF_NODE
+/* at IR version 3, with two inputs and their defaults, one of them of a body */
+#define OF_BODY "\x12\x01h\x5A\x03\x0A\x01j\x2A\x05\x42\x01j\x10\x01"
+#define DEFAULT "\x2A\x05\x42\x01i\x10\x01"
+#define HOLDER "\x0A\x1E\x12\x00\x22\x01X\x2A\x17\x0A\x01k\x32\x0F" OF_BODY "\xA0\x01\x05"
+#define SOUND_3 "\x08\x03\x42\x02\x10\x0D\x3A\x37\x12\x01g" INPUT DEFAULT HOLDER
 #define ENTRY "\x42\x05\x0A\x01x\x10\x0D"
 
 static const struct {
@@ -30,6 +35,7 @@ static const struct {
     {NULL, 0, {0, 0}},
     {BYTES("\x08\x08\x42\x02\x10\x0D\x3A\x0B\x12\x01g\x0A\x06\x12\x01" "a\x22\x01X"), {1, 0}},
     {BYTES(SOUND), {4, 3}},
+    {BYTES(SOUND_3), {4, 3}}, /* the body's initializer is one of a list, at every IR version */
     {BYTES(ENTRY ENTRY), {0, 2}},
     {BYTES("\x42\x04\x0A\x02xx\x42\x00\x42\x00"), {0, 0}},              /* six bytes, and two */
     {BYTES("\x3A\x0A\x2A\x03\x42\x01w\x2A\x03\x42\x01v"), {2, 0}},      /* initializers of five */
@@ -112,13 +118,13 @@ static void check_extra(void)
 }
 
 /* Each start of a sound model, and each of its bytes replaced by each other. */
-static void check_changes(uint8_t *page)
+static void check_changes(uint8_t *page, const char *sound, size_t length)
 {
-    size_t length = sizeof SOUND - 1, accepted = 0, i;
+    size_t accepted = 0, i;
     for (i = 0; i <= length; i++)
-        check_bounds(at_the_edge(page, SOUND, i), i);
+        check_bounds(at_the_edge(page, sound, i), i);
     for (i = 0; i < length * 256; i++) {
-        uint8_t *model = at_the_edge(page, SOUND, length);
+        uint8_t *model = at_the_edge(page, sound, length);
         model[i / 256] = (uint8_t)i;
         accepted += check_bounds(model, length);
     }
@@ -171,7 +177,7 @@ static struct onnx_gate_need of_many(uint8_t *model, uint8_t ir_version, size_t 
 static void check_long_lists(uint8_t *model)
 {
     struct onnx_gate_need unasked = of_many(model, 8, 65536, 2, 3), kept = of_many(model, 8, 65537, 1, 3);
-    struct onnx_gate_need twice = of_many(model, 8, 65537, 2, 3), old = of_many(model, 3, 65537, 1, 3);
+    struct onnx_gate_need twice = of_many(model, 8, 65537, 2, 3), old = of_many(model, 2, 65537, 1, 3);
     struct onnx_gate_need padded = of_many(model, 8, 65537, 1, 4);
     expect(unasked.names == 65536 && unasked.lists == 65536, "long lists", 65536);
     expect(kept.names == 65537 && kept.lists == 65537, "long lists", 65537);
@@ -206,7 +212,8 @@ int main(void)
         return 1;
     }
     check_rows(page);
-    check_changes(page);
+    check_changes(page, BYTES(SOUND));
+    check_changes(page, BYTES(SOUND_3));
     check_extra();
     check_depth(large);
     check_long_lists(large);

@@ -43,6 +43,19 @@ class Samples(unittest.TestCase):
                 self.assertEqual(str(onnx_gate.check(model, LIST, cells, 4 * cells, 7)), answer)
         self.assertEqual(self.line(bytes.fromhex("0808 4202100D 3A17 120167" + default + entry), 2), "accepted nodes 0 names 1 odd 0")
 
+    def test_ir_versions(self):
+        """3 to 11; at 3 an initializer bears the name of an input of its own graph, and later a body has no default."""
+        for version in range(20):
+            answer = "accepted nodes 0 names 0 odd 0" if 3 <= version <= 11 else "refused 10 at 0"
+            self.assertEqual(self.line(bytes([8, version]) + bytes.fromhex("4202100D 3A03 120167"), 0), answer)
+        default = "2A05 420169 1001"
+        body = "0A1E 1200 220158 2A17 0A016B A00105 320F 120168 5A03 0A0169" + default
+        own = onnx_gate.check(bytes.fromhex("0803 4202100D 3A0A 120167" + default), LIST)
+        self.assertEqual((str(own), own.rule), ("refused 43 at 13", "initializer-not-input"))
+        self.assertEqual(own.explanation, "at IR version 3 an initializer must bear the name of an input of its own graph")
+        for version, answer in (3, "accepted nodes 1 names 1 odd 0"), (4, "refused 23 at 38 first 33"), (11, "refused 23 at 38 first 33"):
+            self.assertEqual(self.line(bytes([8, version]) + bytes.fromhex("4202100D 3A23 120167" + body), 2), answer)
+
     def test_odd_names(self):
         """Names that are no identifiers are counted where they stand, and only bytes that are no UTF-8 are refused."""
         for output, answer in (

@@ -72,6 +72,15 @@ class Sizes(unittest.TestCase):
         self.assertEqual(lent(tensors(100)), ("accepted nodes 0 names 100 odd 0", [(200, 400 + 2 + 400)]))
         self.assertEqual(lent(b""), ("refused 10 at 0", [(0, 2)]))
 
+    def test_initializers_of_a_body(self):
+        """At IR version 3 they are a list, too, and so they are counted at every version."""
+        inside = b"".join(b"\x5a\x09\x0a\x07i%06x\x2a\x0b\x42\x07i%06x\x10\x01" % (i, i) for i in range(100))
+        attribute = b"\x0a\x01k\xa0\x01\x05" + part(6, b"\x12\x01h" + inside)
+        model = graph(part(1, b"\x12\x00\x22\x01X" + part(5, attribute)))
+        for version in 3, 4, 11:
+            self.assertEqual(needed(bytes([8, version]) + model[2:]), (200, 101))
+        self.assertEqual(str(onnx_gate.check(b"\x08\x03" + model[2:], LIST)), "accepted nodes 1 names 100 odd 0")
+
     def test_extra_cells(self):
         """Four for each cell, and more only for more lists than names."""
         for cells, lists, extra in (0, 0, 2), (1, 0, 4), (2, 0, 8), (2, 1, 10), (3, 1, 12), (4, 1, 16), (4, 2, 18), (0, 9, 38):
@@ -108,7 +117,7 @@ class Sizes(unittest.TestCase):
         for number, last in (5, twice), (9, padded):
             model = tensors(count, last)
             self.assertEqual(lent(model), (f"refused {number} at {len(model) - 3}", [(0, 2)]))
-        self.assertEqual(lent(b"\x08\x03" + tensors(count)[2:]), ("refused 10 at 0", [(0, 2)]))
+        self.assertEqual(lent(b"\x08\x02" + tensors(count)[2:]), ("refused 10 at 0", [(0, 2)]))
         self.assertEqual(lent(tensors(count, twice), b""), ("refused 8 at 0", [(0, 2)]))
         self.assertEqual(lent(tensors(count), empty)[0], "refused 14 at 2")
         few = tensors(65_536, twice)

@@ -9,7 +9,7 @@ use std::ffi::{OsStr, OsString};
 use std::os::unix::ffi::OsStrExt;
 use words::{said, split, Grammar, Words};
 
-/// What is allowed where nothing is said: the operators of ONNX with IR 4 to 10.
+/// What is allowed where nothing is said: the operators of ONNX 1.2 to 1.16, whatever the IR version.
 pub const DEFAULT: [(&str, u32, u32); 2] = [("ai.onnx", 7, 21), ("ai.onnx.ml", 1, 5)];
 
 #[derive(Debug, PartialEq, Eq)]

@@ -37,6 +37,7 @@ pub fn of(given: &Given, refusal: Refusal, path: &Path, name: Option<&[u8]>) -> 
         38 => Some(value("dim_value", target)),
         40 => Some(format!("there are {} cells, {CELLS_PER_NAME} for each name", given.cells)),
         30 | 35 => return name.map_or(vec![], |n| defined(given.model, n)),
+        43 => return not_input(given.model, path, name),
         _ => None,
     };
     note.into_iter().collect()
@@ -159,6 +160,33 @@ fn attribute(model: &[u8], target: &Step) -> Option<String> {
     held.sort_unstable();
     let held = if held.is_empty() { "nothing".into() } else { held.join(", ") };
     Some(format!("type is {kind}; the attribute holds {held}"))
+}
+
+/// The inputs of an initializer's graph, and what else has its name: mostly an input of a graph around it.
+fn not_input(model: &[u8], path: &Path, name: Option<&[u8]>) -> Vec<String> {
+    let Some(step) = path.steps.iter().nth_back(1).filter(|s| s.is(Kind::Graph, 5)) else {
+        return vec![];
+    };
+    let mut notes = vec![inputs(model, step)];
+    let places = name.map_or(vec![], |n| definitions::of(model, n, NAMED + 1));
+    let others = places.iter().filter(|p| **p != step.field.tag).take(NAMED);
+    notes.extend(others.map(|p| format!("the name is also that of {}", path::find(model, *p).shown())));
+    notes
+}
+
+/// The first inputs of the graph that the field stands in, and how many more there are.
+fn inputs(model: &[u8], step: &Step) -> String {
+    let inputs = || wire::fields(model, step.from, step.within).filter(|f| f.number == 11 && f.wire == 2);
+    let shown = |f: wire::Field| f.end.and_then(|end| wire::contents(model, f.value, end, 1)).map(quoted);
+    let named: Vec<String> = inputs().take(NAMED).filter_map(shown).collect();
+    match inputs().count() {
+        0 => "its graph has no inputs".into(),
+        count if count > NAMED => {
+            format!("the inputs of its graph are {} and {} more", named.join(", "), count - NAMED)
+        }
+        1 => format!("the input of its graph is {}", named.join("")),
+        _ => format!("the inputs of its graph are {}", named.join(", ")),
+    }
 }
 
 /// Where the name is defined all the same: later, in another branch, or nowhere.

@@ -222,7 +222,7 @@ padding() {
 # Models of 64 MB that are dear to explain, within 10 MB more, and too little memory for any explanation.
 dear_explanations() {
     script hostile "$root/examples" .
-    for file in nodes outputs values names fields; do
+    for file in nodes outputs defaults values names fields; do
         expect 1 "$file.onnx: refused *  where  *: accepted*1 accepted, 1 refused, 0 not judged" '' \
             "${within[@]}" 75536 "$gate" check "$file.onnx" "$good"
     done
@@ -286,7 +286,7 @@ said() {
     try 0 'Makes and prints operator lists*' '' operators --help
     try 0 'onnx-gate [0-9]*' '' --version
     try 0 'onnx-gate [0-9]*' '' check -V
-    try 0 ' 1  past-end*'$'\n'' 9  padded  *40  cells-full*65  too-few-extra*' '' rules
+    try 0 ' 1  past-end*'$'\n'' 9  padded  *40  cells-full*43  initializer-not-input*65  too-few-extra*' '' rules
     try 0 'Prints every refusal number*65 is for programs*' '' rules --help
     run "$gate" rules >"$work/rules"
     same "the rules in Python" "$(script same_rules "$work/rules" "$(grep -rl '^RULES = {' "$root/bindings/python")")" "same"

@@ -17,6 +17,7 @@ def many(field):
 # a name that nothing defines, and millions of places to look for it
 (folder / "nodes.onnx").write_bytes(model(graph("g", node("Relu", ["x"], ["y"]), many(part(1, b"")))))
 (folder / "outputs.onnx").write_bytes(model(graph("g", node("Relu", ["x"], ["y"]), part(1, many(part(2, b""))))))
+(folder / "defaults.onnx").write_bytes(model(graph("g", many(part(1, b"")), initializer("w")), ir_version=3))
 # millions of values in one attribute
 values = part(1, "a") + number(20, 1) + many(number(8, 0))
 (folder / "values.onnx").write_bytes(model(graph("g", node("Relu", [], ["y"], values))))

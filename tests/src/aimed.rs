@@ -6,6 +6,7 @@ mod crafted;
 mod defaults;
 mod imports;
 mod near;
+mod nested_defaults;
 mod nodes;
 mod parts;
 mod scopes;
@@ -20,7 +21,8 @@ pub use near::near;
 
 /// Small ones, for every number of extra cells from `4n` to `4n + 60`.
 pub fn small() -> Vec<Row> {
-    let lists = [nodes::rows(), attributes::rows(), defaults::rows(), imports::rows()].concat();
+    let lists =
+        [nodes::rows(), attributes::rows(), defaults::rows(), nested_defaults::rows(), imports::rows()].concat();
     [scopes::rows(), lists, starts::rows(), crafted::few()].concat()
 }
 
@@ -70,7 +72,7 @@ mod tests {
         for row in &rows {
             assert_eq!(check(&row.model, &row.list, row.cells), row.answer, "{}", row.name);
         }
-        for number in [0, 13, 23, 28, 29, 30, 31, 35] {
+        for number in [0, 13, 23, 28, 29, 30, 31, 35, 43] {
             let count = rows.iter().filter(|row| row.answer.number() == number).count();
             assert!(count > 1, "{count} rows answer {number}");
         }

@@ -4,7 +4,7 @@
 
 use std::collections::{HashMap, HashSet};
 
-use crate::header::header;
+use crate::header::{header, Header};
 use crate::oplist;
 use crate::parts::{all, contents, first, identifier, number_in, refuse, Step};
 use crate::schema;
@@ -45,10 +45,10 @@ fn judge(model: &[u8], list: &[u8], cells: usize, most: &mut usize) -> Result<Co
         return refuse(8, 0);
     };
     schema::first_walk(model)?;
-    let (graph, imports) = header(model, &operators)?;
-    let room = cells / CELLS_PER_NAME;
+    let header = header(model, &operators)?;
+    let (graph, room) = (header.graph, cells / CELLS_PER_NAME);
     let mut judge =
-        Judge { model, imports, room, visible: HashMap::new(), trail: Vec::new(), nodes: 0, names: 0, odd: 0 };
+        Judge { model, header, room, visible: HashMap::new(), trail: Vec::new(), nodes: 0, names: 0, odd: 0 };
     let done = judge.graph(graph, true);
     *most = judge.names;
     done.map(|()| Counts { nodes: judge.nodes, names: judge.names as u64, odd: judge.odd })
@@ -60,7 +60,7 @@ const CARRIERS: [u32; 14] = [2, 3, 4, 5, 6, 7, 8, 9, 10, 11, 22, 23, 14, 15];
 /// The second walk below the header.
 struct Judge<'m> {
     model: &'m [u8],
-    imports: HashSet<&'m [u8]>,
+    header: Header<'m>,
     /// How many names may be visible together.
     room: usize,
     /// The names visible now with their places, and the names in the order in which they became visible.
@@ -103,19 +103,25 @@ impl<'m> Judge<'m> {
         Ok(())
     }
 
+    /// At IR version 3 "each initializer must bear the name of an input of its own graph, otherwise 43 (after 21, before 23), and a nested
+    /// graph may give its own input a default once".
     fn initializers(&mut self, graph: Field, main: bool) -> Step {
-        // Inputs of the main graph that have no default yet. A nested initializer is never a default.
-        let mut free = HashSet::new();
-        if main {
-            let named = all(self.model, graph, 11).filter_map(|input| first(self.model, input, 1));
-            free.extend(named.map(|field| contents(self.model, field)));
+        let model = self.model;
+        let defaults_only = self.header.ir_version == 3;
+        // The inputs that may have a default, and whether they have one.
+        let mut inputs = HashMap::new();
+        if main || defaults_only {
+            let named = all(model, graph, 11).filter_map(|input| first(model, input, 1));
+            inputs.extend(named.map(|field| (contents(model, field), false)));
         }
-        for tensor in all(self.model, graph, 5) {
+        for tensor in all(model, graph, 5) {
             let (name, place) = self.name(tensor, 8, 22)?;
-            if !free.remove(name) {
-                self.bind(name, place)?;
+            match inputs.get_mut(name) {
+                None if defaults_only => return refuse(43, place),
+                Some(given @ false) => *given = true,
+                _ => self.bind(name, place)?,
             }
-            number_in(self.model, tensor, 2, 1..=23, 26)?;
+            number_in(model, tensor, 2, 1..=23, 26)?;
         }
         Ok(())
     }
@@ -154,7 +160,7 @@ impl<'m> Judge<'m> {
             Some(field) => (contents(self.model, field), field.place),
             None => (&self.model[..0], node.place),
         };
-        if self.imports.contains(oplist::domain(named)) {
+        if self.header.imports.contains(oplist::domain(named)) {
             Ok(())
         } else {
             refuse(28, place)

@@ -1,17 +1,30 @@
 //! The header of the model: what the second walk judges before the main graph.
 
 use std::collections::HashSet;
+use std::ops::RangeInclusive;
 
 use crate::oplist::{self, OperatorList};
 use crate::parts::{all, contents, first, number_in, refuse};
 use crate::verdict::Refusal;
 use crate::wire::{Field, BYTES};
 
-/// 10, 11, 12, each import (13 then 14), 15. Hands back the main graph and the imported domains.
-pub fn header<'m>(model: &'m [u8], operators: &OperatorList) -> Result<(Field, HashSet<&'m [u8]>), Refusal> {
+/// "Refusal 10 now means outside 3..11."
+pub const IR_VERSIONS: RangeInclusive<i64> = 3..=11;
+
+/// What the judge of graphs is told.
+pub struct Header<'m> {
+    pub ir_version: u64,
+    pub graph: Field,
+    /// The domains, the default one as the empty bytes.
+    pub imports: HashSet<&'m [u8]>,
+}
+
+/// 10, 11, 12, each import (13 then 14), 15.
+pub fn header<'m>(model: &'m [u8], operators: &OperatorList) -> Result<Header<'m>, Refusal> {
     // The model stands for a field that begins at 0, so that what it lacks is refused at 0.
     let whole = Field { place: 0, number: 0, kind: BYTES, value: 0, start: 0, end: model.len() };
-    number_in(model, whole, 1, 4..=10, 10)?;
+    number_in(model, whole, 1, IR_VERSIONS, 10)?;
+    let ir_version = first(model, whole, 1).map_or(0, |field| field.value);
     let Some(graph) = first(model, whole, 7) else {
         return refuse(11, 0);
     };
@@ -34,5 +47,5 @@ pub fn header<'m>(model: &'m [u8], operators: &OperatorList) -> Result<(Field, H
     if let Some(function) = first(model, whole, 25) {
         return refuse(15, function.place);
     }
-    Ok((graph, imports))
+    Ok(Header { ir_version, graph, imports })
 }

@@ -102,7 +102,7 @@ fn run(settings: &Settings, tally: &mut Tally) -> Outcome {
         tally.row(row)?;
         tally.spellings(row)?;
     }
-    for row in rows::positions().iter().chain(&rows::names()).chain(&rows::wide()) {
+    for row in rows::positions().iter().chain(&rows::ir_versions()).chain(&rows::names()).chain(&rows::wide()) {
         tally.row(row)?;
     }
     aimed_models(tally)?;

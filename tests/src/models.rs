@@ -114,7 +114,7 @@ fn wild_model(rng: &mut Rng) -> Case {
     if rng.chance(1, 2) {
         let import = Tree::new(Message::OperatorSetId).number(2, 13);
         tree.items.retain(|item| item.number == 7);
-        tree = tree.number(1, 8).tree(8, import);
+        tree = tree.number(1, *rng.pick(&[3, 8, 11])).tree(8, import);
     }
     wild::sprinkle(&mut tree, rng);
     Case { label: "wild".into(), model: unsound(tree, rng), list: lists::L.to_vec(), expected: None }

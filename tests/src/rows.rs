@@ -2,6 +2,7 @@
 
 mod by_hand;
 mod domains;
+mod ir_versions;
 mod large;
 mod lengths;
 mod names;
@@ -13,6 +14,7 @@ mod versions;
 mod wide;
 
 pub use by_hand::by_hand;
+pub use ir_versions::ir_versions;
 pub use large::large;
 pub use names::names;
 pub use positions::positions;
@@ -87,7 +89,7 @@ pub fn document() -> Vec<Row> {
     for (version, answer) in [(7, accepted(0, 0)), (21, accepted(0, 0)), (6, refused(14, 2)), (22, refused(14, 2))] {
         rows.push(row("M0 with another import", with_byte(M0, 5, version), &L, 0, answer));
     }
-    for (version, answer) in [(4, accepted(0, 0)), (10, accepted(0, 0)), (3, refused(10, 0)), (11, refused(10, 0))] {
+    for (version, answer) in [(3, accepted(0, 0)), (11, accepted(0, 0)), (2, refused(10, 0)), (12, refused(10, 0))] {
         rows.push(row("M0 with another ir_version", with_byte(M0, 1, version), &L, 0, answer));
     }
     rows.push(row("graphs nested to 8", nested(8), &L, 0, accepted(7, 0)));
@@ -109,12 +111,16 @@ pub fn nested(depth: usize) -> Vec<u8> {
     at_depth(depth, Tree::new(Message::Graph).text(2, b"g"))
 }
 
-/// A model with this graph at `depth`, each body in a node whose one output is left out.
+/// A node whose one output is left out, with this body.
+fn holder(graph: Tree) -> Tree {
+    let attribute = Tree::new(Message::Attribute).text(1, b"b").number(20, 5).tree(6, graph);
+    Tree::new(Message::Node).text(2, b"").text(4, b"X").tree(5, attribute)
+}
+
+/// A model with this graph at `depth`, each body in such a node.
 fn at_depth(depth: usize, mut graph: Tree) -> Vec<u8> {
     for _ in 1..depth {
-        let attribute = Tree::new(Message::Attribute).text(1, b"b").number(20, 5).tree(6, graph);
-        let node = Tree::new(Message::Node).text(2, b"").text(4, b"X").tree(5, attribute);
-        graph = Tree::new(Message::Graph).text(2, b"g").tree(1, node);
+        graph = Tree::new(Message::Graph).text(2, b"g").tree(1, holder(graph));
     }
     let import = Tree::new(Message::OperatorSetId).number(2, 13);
     Tree::new(Message::Model).number(1, 8).tree(8, import).tree(7, graph).encode()
@@ -151,6 +157,11 @@ mod tests {
     }
 
     #[test]
+    fn the_rows_of_ir_versions() {
+        holds(ir_versions());
+    }
+
+    #[test]
     fn the_rows_with_long_names_and_many() {
         holds(wide());
     }
@@ -168,7 +179,7 @@ mod tests {
     }
 
     fn all_rows() -> impl Iterator<Item = Row> {
-        document().into_iter().chain(by_hand()).chain(names()).chain(wide()).chain(large())
+        document().into_iter().chain(by_hand()).chain(ir_versions()).chain(names()).chain(wide()).chain(large())
     }
 
     #[test]
@@ -207,6 +218,24 @@ mod tests {
             let model = in_graph(graph);
             assert_eq!(check(&model, &L, 9).number(), 9, "{name}");
             assert_eq!(run(&model, &[]).end, end, "{name}");
+        }
+    }
+
+    /// At IR version 3 a default in a body, which stands at 38, binds nothing new however often it is run, and a read finds the input, at 33.
+    #[test]
+    fn a_run_with_a_default_in_a_body() {
+        let body = "12 01 67 5A 03 0A 01 69 2A 05 42 01 69 10 01 0A 08 0A 01 69 12 00 22 01 58";
+        let mut model = in_graph(&format!("12 01 67 0A 28 12 00 22 01 58 2A 21 0A 01 6B A0 01 05 32 19 {body}"));
+        model[1] = 3;
+        let read = Read { field: 45, defined: 33 };
+        for (choices, reads) in [(&[][..], vec![read]), (&[0], vec![]), (&[3], vec![read; 3])] {
+            let run = run(&model, choices);
+            assert_eq!((run.end, run.reads), (End::Reached, reads));
+        }
+        for version in [4, 11] {
+            model[1] = version;
+            assert_eq!(run(&model, &[]).end, End::BoundAgain { place: 38, defined: 33 });
+            assert_eq!(run(&model, &[0]).end, End::Reached);
         }
     }
 

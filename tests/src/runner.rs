@@ -31,6 +31,8 @@ struct Node<'m> {
 #[derive(Debug)]
 pub struct Plan<'m> {
     main: Option<Graph<'m>>,
+    /// Do inputs of nested graphs have defaults? "at IR 3 only"
+    nested_defaults: bool,
 }
 
 #[derive(Clone, Copy, Debug, PartialEq, Eq)]
@@ -72,12 +74,21 @@ pub fn run(model: &[u8], choices: &[u64]) -> Run {
 impl<'m> Plan<'m> {
     /// Reads up to the first field that cannot be read; a model without a graph has nothing to run.
     pub fn read(model: &'m [u8]) -> Plan<'m> {
-        let graph = fields(model, 0, model.len()).find(|field| field.number == 7 && field.kind == 2);
-        Plan { main: graph.map(|field| Graph::read(model, field)) }
+        let of_model = |number: u32, kind: u8| {
+            fields(model, 0, model.len()).find(|field| field.number == number && field.kind == kind)
+        };
+        let main = of_model(7, 2).map(|field| Graph::read(model, field));
+        Plan { main, nested_defaults: of_model(1, 0).is_some_and(|ir_version| ir_version.value == 3) }
     }
 
     pub fn run(&self, choices: &[u64]) -> Run {
-        let mut runner = Runner { choices: choices.iter(), bound: HashMap::new(), order: Vec::new(), run: Run::new() };
+        let mut runner = Runner {
+            nested_defaults: self.nested_defaults,
+            choices: choices.iter(),
+            bound: HashMap::new(),
+            order: Vec::new(),
+            run: Run::new(),
+        };
         if let Some(main) = &self.main {
             if let Err(end) = runner.graph(main, true) {
                 runner.run.end = end;
@@ -153,6 +164,7 @@ impl Run {
 }
 
 struct Runner<'p, 'm> {
+    nested_defaults: bool,
     choices: std::slice::Iter<'p, u64>,
     /// Each bound name with its defining place, and the bound names in order, so that a body's can be forgotten.
     bound: HashMap<&'m [u8], u64>,
@@ -169,7 +181,7 @@ impl<'m> Runner<'_, 'm> {
             self.bind(*input)?;
         }
         let mut free = HashSet::new();
-        if main {
+        if main || self.nested_defaults {
             free.extend(graph.inputs.iter().map(|input| input.bytes));
         }
         for initializer in &graph.initializers {

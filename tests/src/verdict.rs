@@ -28,7 +28,7 @@ pub struct Refusal {
 
 /// The refusal numbers of document 01 and its changes, for those who count what was reached.
 pub fn refusal_numbers() -> Vec<u64> {
-    let mut numbers = vec![1, 2, 3, 4, 5, 6, 7, 8, 9, 40];
+    let mut numbers = vec![1, 2, 3, 4, 5, 6, 7, 8, 9, 40, 43];
     numbers.extend(10..=16);
     numbers.extend(20..=35);
     numbers.extend([37, 38]);

@@ -1,5 +1,5 @@
 //! Both checks beside those of another clone, in turn in one process: what a change did to their time. The other library answers as this
-//! one does: it is from Req 03 or later.
+//! one does: it is from Req 03 or later. One from before Req 06 refuses IR version 3, and is not timed on such models.
 
 use std::hint::black_box;
 use std::time::Duration;
@@ -9,7 +9,7 @@ use gate_tests::gate::Answer;
 use crate::clock::timed;
 use crate::given::Given;
 use crate::markdown::{head, ratio, table, time};
-use crate::report::Run;
+use crate::report::{Run, NONE};
 use crate::timing::{in_turn, Plan, ONCE};
 use crate::workloads::Workload;
 
@@ -55,6 +55,11 @@ pub fn rows(run: &Run, workloads: &[&Workload]) -> String {
 fn row(run: &Run, workload: &Workload) -> Vec<String> {
     eprintln!("{}", workload.name);
     let whole = run.given(workload, 1);
+    if refuses_version(&whole) {
+        let mut row = vec![NONE.to_string(); HEAD.len()];
+        (row[2], row[3]) = (workload.name.to_string(), "refused with 10".to_string());
+        return row;
+    }
     let quarter = workload.size.is_some().then(|| run.given(workload, 4));
     let quarter = quarter.filter(|quarter| quarter.plain()() * 16 > ONCE);
     let indexed = pair(indexed(&whole), whole.indexed(), run.plan);
@@ -88,22 +93,30 @@ fn plain(given: &Given) -> impl FnMut() -> Duration + '_ {
 fn indexed(given: &Given) -> impl FnMut() -> Duration + '_ {
     let (mut cells, mut extra) = (vec![0; given.cells], vec![0; given.extra]);
     move || {
-        let (model, list) = (black_box(&given.model), &given.list);
-        // SAFETY: as above, and the two slices that are written are two.
-        let (taken, answer) = timed(|| unsafe {
-            before_check_indexed(
-                model.as_ptr(),
-                model.len(),
-                list.as_ptr(),
-                list.len(),
-                cells.as_mut_ptr(),
-                cells.len(),
-                extra.as_mut_ptr(),
-                extra.len(),
-                given.seed,
-            )
-        });
+        let (taken, answer) = timed(|| call_indexed(given, &mut cells, &mut extra));
         given.accepts(answer);
         taken
     }
+}
+
+fn call_indexed(given: &Given, cells: &mut [u32], extra: &mut [u32]) -> Answer {
+    let (model, list) = (black_box(&given.model), &given.list);
+    // SAFETY: as above, and the two slices that are written are two.
+    unsafe {
+        before_check_indexed(
+            model.as_ptr(),
+            model.len(),
+            list.as_ptr(),
+            list.len(),
+            cells.as_mut_ptr(),
+            cells.len(),
+            extra.as_mut_ptr(),
+            extra.len(),
+            given.seed,
+        )
+    }
+}
+
+fn refuses_version(given: &Given) -> bool {
+    call_indexed(given, &mut vec![0; given.cells], &mut vec![0; given.extra]).refusal == 10
 }

@@ -13,6 +13,7 @@ mod command;
 mod crafted;
 mod files;
 mod given;
+mod ir_3;
 mod lists;
 mod markdown;
 mod memory;

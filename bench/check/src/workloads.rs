@@ -5,7 +5,7 @@ use gate_tests::models::lists::{self, Entry};
 use gate_tests::models::proto::{put_varint, Item, Tree, Value};
 use gate_tests::schema::Message;
 
-use crate::searches;
+use crate::{ir_3, searches};
 
 /// A model by its size, whatever the size counts. Of a size it has a half and a quarter, to see how the time grows.
 pub struct Workload {
@@ -42,7 +42,7 @@ impl Workload {
 /// The one on which the command is measured too.
 pub const LARGEST: Workload = of("one initializer of 1.9 GB raw data", 1_900_000_000, |size, _| heavy(size, 0));
 
-pub const WORKLOADS: [Workload; 22] = [
+pub const WORKLOADS: [Workload; 25] = [
     Workload { size: None, ..of("small model, 6 nodes", 0, |_, _| small()) },
     of("chain of 20,000 nodes, unnamed", CHAIN, |size, _| chain(size, false)),
     of("chain of 20,000 nodes, named", CHAIN, |size, _| chain(size, true)),
@@ -52,6 +52,9 @@ pub const WORKLOADS: [Workload; 22] = [
     of("wide: 4,000 branches with weights into one sum", 4_000, |size, _| wide(size)),
     of("4,000 inputs with defaults", 4_000, searches::defaults),
     of("16,000 inputs with defaults", 16_000, searches::defaults),
+    of("IR 3: 16,000 inputs with defaults", 16_000, ir_3::main_defaults),
+    of("IR 3: 16,000 inputs with defaults in one body", 16_000, ir_3::body_defaults).custom(),
+    of("IR 3: 16,000 bodies of one input with a default, under 16,000 names", 16_000, ir_3::bodies).custom(),
     of("nested to depth 8, 20 towers of 254 graphs", 20, |size, _| nested(size)),
     of("20,000 nodes with a body that binds a name", CHAIN, searches::bodies).custom(),
     of("20,000 attributes in one node", CHAIN, searches::attributes).custom(),

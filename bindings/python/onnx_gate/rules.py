@@ -1,4 +1,4 @@
-"""Document 01's refusal numbers, and 9 and 65 of document 02, each with a name and a line for people."""
+"""Document 01's refusal numbers, and 9, 43 and 65 of document 02, each with a name and a line for people."""
 
 # tests/same_rules.py holds it to bindings/rust/src/rules.rs and bindings/c/onnx_gate.h.
 RULES = {
@@ -11,7 +11,7 @@ RULES = {
     7: ("model-too-large", "the model has more than 2,147,483,647 bytes"),
     8: ("list-unsound", "the operator list is not in its format, or has a domain twice"),
     9: ("padded", "a tag, value or length is padded: a varint of more than one byte that ends in 0"),
-    10: ("bad-ir-version", "ir_version must be 4 to 10"),
+    10: ("bad-ir-version", "ir_version must be 3 to 11"),
     11: ("no-graph", "the model has no graph"),
     12: ("no-opset-import", "the model has no opset_import"),
     13: ("imported-twice", "a domain is imported twice (the empty domain is ai.onnx)"),
@@ -37,5 +37,6 @@ RULES = {
     37: ("no-shape", "a tensor type of the main graph must have a shape"),
     38: ("negative-dim", "a dim_value is negative"),
     40: ("cells-full", "more names are visible together than fit in the cells, two for each"),
+    43: ("initializer-not-input", "at IR version 3 an initializer must bear the name of an input of its own graph"),
     65: ("too-few-extra", "a program lent the indexed check fewer extra cells than four times its cells"),
 }

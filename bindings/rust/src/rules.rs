@@ -1,4 +1,4 @@
-//! The refusal numbers of document 01, and 9 and 65 of document 02, each with a name and a line for people.
+//! The refusal numbers of document 01, and 9, 43 and 65 of document 02, each with a name and a line for people.
 
 /// A number that a model can be refused with.
 #[derive(Clone, Copy, Debug, PartialEq, Eq)]
@@ -13,7 +13,7 @@ const fn of(number: u64, name: &'static str, explanation: &'static str) -> Rule 
 }
 
 /// All numbers, in ascending order.
-pub const RULES: [Rule; 36] = [
+pub const RULES: [Rule; 37] = [
     of(1, "past-end", "a varint, value or length runs past the end of its message"),
     of(2, "tenth-byte", "the tenth byte of a varint is above 1"),
     of(3, "bad-tag", "not a tag: above 2^32 - 1, field number 0, or a wire type other than 0, 1, 2 and 5"),
@@ -23,7 +23,7 @@ pub const RULES: [Rule; 36] = [
     of(7, "model-too-large", "the model has more than 2,147,483,647 bytes"),
     of(8, "list-unsound", "the operator list is not in its format, or has a domain twice"),
     of(9, "padded", "a tag, value or length is padded: a varint of more than one byte that ends in 0"),
-    of(10, "bad-ir-version", "ir_version must be 4 to 10"),
+    of(10, "bad-ir-version", "ir_version must be 3 to 11"),
     of(11, "no-graph", "the model has no graph"),
     of(12, "no-opset-import", "the model has no opset_import"),
     of(13, "imported-twice", "a domain is imported twice (the empty domain is ai.onnx)"),
@@ -49,6 +49,7 @@ pub const RULES: [Rule; 36] = [
     of(37, "no-shape", "a tensor type of the main graph must have a shape"),
     of(38, "negative-dim", "a dim_value is negative"),
     of(40, "cells-full", "more names are visible together than fit in the cells, two for each"),
+    of(43, "initializer-not-input", "at IR version 3 an initializer must bear the name of an input of its own graph"),
     of(65, "too-few-extra", "a program lent the indexed check fewer extra cells than four times its cells"),
 ];
 

@@ -9,7 +9,8 @@ pub struct Need {
     /// Imports with a domain.
     pub imports: usize,
     /// Names of lists that are open at once and each have a visible name to them, so that they are no more than those:
-    /// initializers of the main graph, or named nodes with an output.
+    /// initializers of a graph, and named nodes with an output. The library lists the initializers of a nested graph at
+    /// IR version 3 only; they are counted at every version, as the room for visible names has room for them.
     pub bound: usize,
     /// Names of lists that are open at once and have none: attributes, and named nodes whose outputs are left out.
     pub free: usize,
@@ -67,14 +68,14 @@ impl Skimmed {
                 (1, node) => self.node(node, depth)?,
                 (5, initializer) => {
                     self.most.names += 1;
-                    initializers += usize::from(depth == 1 && can_be_kept(initializer));
+                    initializers += usize::from(can_be_kept(initializer));
                 }
                 (11, _) => self.most.names += 1,
                 _ => {}
             }
         }
-        // their list is closed before that of the nodes is begun
-        self.most.bound = self.most.bound.max(initializers);
+        // their list is begun on those around the graph, and closed before that of its nodes is begun
+        self.most.bound = self.most.bound.max(bound + initializers);
         (self.bound, self.free) = (bound, free);
         Some(())
     }

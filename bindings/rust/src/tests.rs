@@ -97,6 +97,33 @@ fn samples_of_document_01() {
     }
 }
 
+/// Versions 3 to 11; at 3 an initializer is the default of an input of its own graph, and later a body has none.
+#[test]
+fn ir_versions() {
+    let m0 = |version: u8| line(&format!("08 {version:02X} 42 02 10 0D 3A 03 12 01 67"), 0);
+    for version in 0..=20 {
+        let expected = if (3..=11).contains(&version) { "accepted nodes 0 names 0 odd 0" } else { "refused 10 at 0" };
+        assert_eq!(m0(version), expected, "{version}");
+    }
+    let tensor = "2A 05 42 01 69 10 01";
+    let graph = |input: &str| format!("12 01 67 {input} {tensor}");
+    let (typed, in_body) = ("5A 0B 0A 01 69 12 06 0A 04 08 01 12 00", "5A 03 0A 01 69");
+    let body = |node, attribute, g, inner: &str| {
+        format!("12 01 67 0A {node} 12 00 22 01 58 2A {attribute} 0A 01 6B A0 01 05 32 {g} {inner}")
+    };
+    let (own, default) = (body("19", "12", "0A", &graph("")), body("1E", "17", "0F", &graph(in_body)));
+    for (graph, length, cells, at_3, later) in [
+        (graph(""), "0A", 2, "refused 43 at 13", "accepted nodes 0 names 1 odd 0"),
+        (graph(""), "0A", 1, "refused 43 at 13", "refused 40 at 13"),
+        (graph(typed), "17", 2, "accepted nodes 0 names 1 odd 0", "accepted nodes 0 names 1 odd 0"),
+        (own, "1E", 2, "refused 43 at 33", "accepted nodes 1 names 1 odd 0"),
+        (default, "23", 2, "accepted nodes 1 names 1 odd 0", "refused 23 at 38 first 33"),
+    ] {
+        let model = |version: &str| line(&format!("08 {version} 42 02 10 0D 3A {length} {graph}"), cells);
+        assert_eq!((model("03"), model("04"), model("0B")), (at_3.into(), later.into(), later.into()), "{graph}");
+    }
+}
+
 /// Both places of a name that is defined twice: what is visible, in the order in which fields are judged.
 #[test]
 fn both_definitions() {
@@ -246,7 +273,7 @@ fn names_are_shown() {
 #[test]
 fn every_rule_is_said() {
     let numbers: Vec<u64> = RULES.iter().map(|r| r.number).collect();
-    let documents = [1..=16, 20..=35, 37..=38, 40..=40, 65..=65];
+    let documents = [1..=16, 20..=35, 37..=38, 40..=40, 43..=43, 65..=65];
     assert_eq!(numbers, documents.into_iter().flatten().collect::<Vec<u64>>());
     assert!(RULES.iter().all(|r| !r.name.is_empty() && !r.explanation.is_empty() && !r.explanation.contains('\n')));
     let refusal: Box<dyn std::error::Error> = Box::new(refused(30, 13));

@@ -29,7 +29,8 @@ use Rattle.schema.specs.declared.Kind.{Kind}
 use Rattle.scope.specs.Scope.{walkIn, stepSays, counting, Countable, left, grows, Enters, counted, Keeps}
 use Rattle.values.specs.Answers.{tallySays, Addable}
 use Rattle.messages.specs.Heads.{attributeRules}
-use Rattle.messages.specs.Again.{attributeAgain, graphAgain}
+use Rattle.messages.specs.Again.{inside, attributeAgain, graphAgain}
+use Rattle.messages.specs.declared.contexts.Surroundings.{Surroundings}
 use Rattle.values.specs.declared.tallies.Tally.{Tally}
 use Rattle.scope.specs.declared.scopes.Progress.{Progress}
 use Rattle.scope.specs.declared.scopes.Step.{Step}
@@ -73,8 +74,17 @@ module _ (model : Bytes) (nested : GraphJudge) (cells : List ℕ) (q : Progress)
 
 -- ---- attribute
 
-abbrev pub Nested : (model : Bytes) (depth size : ℕ) → GraphJudge
-Nested model depth size = λ v g. graphAgain model (fills size) depth false v g
+abbrev pub Nested : (model : Bytes) (depth : ℕ) (around : Surroundings) (size : ℕ) → GraphJudge
+Nested model depth around size = λ v g. graphAgain model (fills size) depth (inside around) v g
+
+-- `inner` is what surrounds a graph inside it
+module _ (model : Bytes) (depth : ℕ) {inner : Surroundings} (around : Surroundings) (e : inner ≡ inside around) where
+  pub inner-judged : (size : ℕ) (w : Walk) (g : Field) {o : Judged Walk} → o ≡ graphAgain model (fills size) depth inner w g → o ≡ Nested model depth around size w g
+  inner-judged size w g h = h ∙ ap (λ (i : Surroundings). graphAgain model (fills size) depth i w g) e
+
+  pub inner-countable : (q : Progress) (g : Field) → Countable q (namesIn model depth false g) → Countable q (namesIn model depth (inner .main) g)
+  unfolding inside
+  inner-countable q g h = rw e h
 
 -- there is room to count its own name
 pub attribute-fits : (model : Bytes) (inner : Field → List Bytes) (node : Field) (p : Progress) (f : Field) (t : Tally)
@@ -91,13 +101,13 @@ pub attribute-first : (model : Bytes) (node : Field) (p : Progress) (f : Field) 
     → (first .used ≡ p .used) × (first .nodes ≡ p .nodes) × (first .odd ≤ p .odd + 1)
 attribute-first model node p f t ruled stepped k = counting-few p t 1 (λ l i. attribute-few model node f ruled i) stepped k
 
-module _ (model : Bytes) (depth : ℕ) (node : Field) (cells : List ℕ) (p : Progress) (f : Field) (t : Tally)
+module _ (model : Bytes) (depth : ℕ) (around : Surroundings) (node : Field) (cells : List ℕ) (p : Progress) (f : Field) (t : Tally)
     (ruled : (w : Walk) → tallySays w t ≡ attributeRules model node w f) {s : Step} (stepped : s ≡ counting p t) where
   abbrev Attribute : Judged Walk
-  Attribute = attributeAgain model (fills (length cells)) (Nested model depth (length cells)) node (walkIn model cells p) f
+  Attribute = attributeAgain model (fills (length cells)) (Nested model depth around (length cells)) node (walkIn model cells p) f
 
   abbrev Bodies : List Field → Walk → Judged Walk
-  Bodies l w = each (body (Nested model depth (length cells))) w l
+  Bodies l w = each (body (Nested model depth around (length cells))) w l
 
   pub attribute-stops : {x : Refusal} → s ≡ step.Refused x → Promised model Attribute cells cells p f s
   unfolding attributeAgain
@@ -148,7 +158,7 @@ module _ (model : Bytes) (depth : ℕ) (node : Field) (cells : List ℕ) (p : Pr
 
       -- the loop over the bodies, from the cursor `begin` on
       module _ (h : b ≡ true) {begin : Cursor} (o : begin ≡ contentsOf f) {later : List ℕ} {q : Progress} {c : Cursor}
-          (g : Going model n (begin .end) (begin .at) (namesIn model depth false) (λ size. body (Nested model depth size))
+          (g : Going model n (begin .end) (begin .at) (namesIn model depth false) (λ size. body (Nested model depth around size))
           (Bodies (allFrom model n (begin .end) (begin .at)) (walkIn model cells first)) cells first later q c)
           {a : Sought} (read : soughtSays a ≡ soughtIn model n (c .end) (c .at)) where
         pub bodies-done : {kind : Kind} → Enters model kind p f → a ≡ sought.Missing → Promised model Attribute cells later p f (step.Went q)
@@ -157,22 +167,22 @@ module _ (model : Bytes) (depth : ℕ) (node : Field) (cells : List ℕ) (p : Pr
             promised-first (started .0) (started .1) (loop-done (rw o at g) read (enters-first (started .0) (started .1) e) i (attribute-all h))
 
         module _ {d : Field} {next : Cursor} (e : a ≡ sought.Found d next) {last : List ℕ} (r : Step)
-            (judged : stepSays model last r ≡ Nested model depth (length later) (walkIn model later q) d) (more : grows q r) (count : counted d q r)
+            (judged : stepSays model last r ≡ Nested model depth around (length later) (walkIn model later q) d) (more : grows q r) (count : counted d q r)
             (kept : Keeps (q .used) later last) where
           pub bodies-stop : {x : Refusal} → r ≡ step.Refused x → Promised model Attribute cells last p f r
           unfolding contentsOf
           bodies-stop i =
               promised-first (started .0) (started .1)
-              (loop-stops (rw o at g) read e r (body-stops model (Nested model depth (length later)) later q d last r judged i) more kept i (attribute-all h))
+              (loop-stops (rw o at g) read e r (body-stops model (Nested model depth around (length later)) later q d last r judged i) more kept i (attribute-all h))
 
           pub bodies-go : {u : Progress} → r ≡ step.Went u → {l : Progress} → l ≡ left q u
-              → Going model n (begin .end) (begin .at) (namesIn model depth false) (λ size. body (Nested model depth size))
+              → Going model n (begin .end) (begin .at) (namesIn model depth false) (λ size. body (Nested model depth around size))
               (Bodies (allFrom model n (begin .end) (begin .at)) (walkIn model cells first)) cells first last l next
-          unfolding grows counted left
+          unfolding grows counted left inside
           bodies-go {u} i {l} m =
               let used : l .used ≡ q .used = ap (λ (x : Progress). x .used) m in
               let nodes : l .nodes ≡ u .nodes = ap (λ (x : Progress). x .nodes) m in
               let few : u .nodes + d .place ≤ q .nodes + d .next = rw i at count in
-              going-goes g read e (step.Went l) (body-goes model (Nested model depth (length later)) later q d last r judged i kept m) (omega arith) kept
-              (λ size w b. body-most model (fills size) (Nested model depth size) (namesIn model depth false) (again-most model (fills size) depth false) w b)
+              going-goes g read e (step.Went l) (body-goes model (Nested model depth around (length later)) later q d last r judged i kept m) (omega arith) kept
+              (λ size w b. body-most model (fills size) (Nested model depth around size) (namesIn model depth false) (again-most model (fills size) depth (inside around)) w b)
               (omega arith) refl

@@ -20,7 +20,8 @@ use Rattle.rules.specs.Count.{valueNames, attributeNames, nodeNames, graphNames
 use Rattle.rules.proofs.Rules.{Adds}
 use Rattle.rules.proofs.NamesFew.{odds-few}
 use Rattle.messages.specs.Heads.{attributeRules}
-use Rattle.messages.specs.Again.{context, fieldNames, tensorNames, openingNames, nodeRules, opening, closing, attributeAgain, nodeAgain, graphFrom, graphAgain}
+use Rattle.messages.specs.Again.{context, inside, fieldNames, tensorNames, openingNames, nodeRules, opening, closing, attributeAgain, nodeAgain, graphFrom, graphAgain}
+use Rattle.messages.specs.declared.contexts.Surroundings.{Surroundings}
 use Rattle.scope.proofs.StepLaws.{grew-few}
 use Rattle.parts.proofs.OpeningLaws.{opening-grew}
 use Rattle.nodes.proofs.NodeCounts.{attribute-adds, rules-odd}
@@ -127,23 +128,23 @@ module _ (model : Bytes) (full : ℕ → Bool) where
         tells-weaken (λ v. v .odd ≤ u .odd + length (flatMap (fieldNames model) (allOf Node·output m))) R Any Any (closing model full u f)
         (λ v j. omega arith) (λ r _. tt) (passing u _ (closing model full u f) (λ v e. closing-odd model full u f v e))))
 
-    graph-most : (main : Bool) (w : Walk) (f : Field) → AtMost w (length (graphNames model inner main f)) (graphFrom model full nested main w f)
+    graph-most : (s : Surroundings) (w : Walk) (f : Field) → AtMost w (length (graphNames model inner (s .main) f)) (graphFrom model full nested s w f)
     unfolding graphFrom context
-    graph-most main w f =
+    graph-most s w f =
         let g = message model f in
-        let R : Walk → Type 0 = λ v. v .odd ≤ w .odd + length (graphNames model inner main f) in
-        let n = graph-names model inner f main in
-        tells-bind (λ v. v .odd ≤ w .odd + length (openingNames model main f)) R Any (opening model full main w f) _
-        (grew-few w 0 (openingNames model main f) (opening model full main w f) (opening-grew model full main w f)) (λ t h.
+        let R : Walk → Type 0 = λ v. v .odd ≤ w .odd + length (graphNames model inner (s .main) f) in
+        let n = graph-names model inner f (s .main) in
+        tells-bind (λ v. v .odd ≤ w .odd + length (openingNames model (s .main) f)) R Any (opening model full s w f) _
+        (grew-few w 0 (openingNames model (s .main) f) (opening model full s w f) (opening-grew model full s w f)) (λ t h.
         tells-bind (λ v. v .odd ≤ t .odd + length (flatMap (nodeNames model inner) (allOf Graph·node g))) R Any
         (each (nodeAgain model full nested f) t (allOf Graph·node g)) _
         (each-most (nodeNames model inner) (nodeAgain model full nested f) (node-most f) (allOf Graph·node g) t) (λ u i.
-        tells-weaken (λ v. v .odd ≤ u .odd + length (flatMap (valueNames model main) (allOf Graph·output g))) R Any Any
-        (each (output model (context model main)) u (allOf Graph·output g)) (λ v j. omega arith) (λ r _. tt)
-        (outputs-odd model (context model main) (allOf Graph·output g) u)))
+        tells-weaken (λ v. v .odd ≤ u .odd + length (flatMap (valueNames model (s .main)) (allOf Graph·output g))) R Any Any
+        (each (output model (context model s)) u (allOf Graph·output g)) (λ v j. omega arith) (λ r _. tt)
+        (outputs-odd model (context model s) (allOf Graph·output g) u)))
 
-  pub again-most : (left : ℕ) (main : Bool) (w : Walk) (f : Field) → AtMost w (length (namesIn model left main f)) (graphAgain model full left main w f)
-  unfolding graphAgain namesIn
-  again-most zero main w f = tt
-  again-most (suc left) main w f =
-      graph-most (λ v g. graphAgain model full left false v g) (λ b. namesIn model left false b) (λ v g. again-most left false v g) main w f
+  pub again-most : (left : ℕ) (s : Surroundings) (w : Walk) (f : Field) → AtMost w (length (namesIn model left (s .main) f)) (graphAgain model full left s w f)
+  unfolding graphAgain namesIn inside
+  again-most zero s w f = tt
+  again-most (suc left) s w f =
+      graph-most (λ v g. graphAgain model full left (inside s) v g) (λ b. namesIn model left false b) (λ v g. again-most left (inside s) v g) s w f

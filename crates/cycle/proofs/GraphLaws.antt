@@ -26,7 +26,8 @@ use Rattle.rules.specs.Count.{valueNames, nodeNames, namesIn}
 use Rattle.schema.specs.declared.Kind.{Kind}
 use Rattle.scope.specs.Scope.{scopeIn, walkIn, stepSays, counting, Countable, grows, Enters, counted, Keeps}
 use Rattle.values.specs.Answers.{tallySays, Addable}
-use Rattle.messages.specs.Again.{context, openingNames, opening, nodeAgain, graphFrom, graphAgain}
+use Rattle.messages.specs.Again.{context, inside, openingNames, opening, nodeAgain, graphFrom, graphAgain}
+use Rattle.messages.specs.declared.contexts.Surroundings.{Surroundings}
 use Rattle.values.specs.declared.tallies.Tally.{Tally}
 use Rattle.scope.specs.declared.scopes.Progress.{Progress}
 use Rattle.scope.specs.declared.scopes.Step.{Step}
@@ -42,10 +43,11 @@ use Rattle.cycle.proofs.PromiseLaws.{Promised, refusing, refused-bind, 
 use Rattle.cycle.proofs.AttributeLaws.{Nested}
 
 -- no more is counted of a node than it has names
-pub nodes-count : (model : Bytes) (depth : ℕ) (f : Field)
-    → Counts (nodeNames model (namesIn model depth false)) (λ size. nodeAgain model (fills size) (Nested model depth size) f)
-nodes-count model depth f size w n =
-    node-most model (fills size) (Nested model depth size) (namesIn model depth false) (again-most model (fills size) depth false) f w n
+pub nodes-count : (model : Bytes) (depth : ℕ) (around : Surroundings) (f : Field)
+    → Counts (nodeNames model (namesIn model depth false)) (λ size. nodeAgain model (fills size) (Nested model depth around size) f)
+unfolding inside
+nodes-count model depth around f size w n =
+    node-most model (fills size) (Nested model depth around size) (namesIn model depth false) (again-most model (fills size) depth (inside around)) f w n
 
 -- the names of the graphs inside, and room to count those of the whole
 abbrev Inner : (model : Bytes) (depth : ℕ) → Field → List Bytes
@@ -68,22 +70,22 @@ module _ (model : Bytes) (depth : ℕ) (main : Bool) (p : Progress) (f : Field) 
   unfolding Countable
   outputs-room = let n = names-all model depth main f h in omega arith
 
-module _ (model : Bytes) (depth : ℕ) (main : Bool) (cells : List ℕ) (p : Progress) (f : Field) where
+module _ (model : Bytes) (depth : ℕ) (around : Surroundings) (cells : List ℕ) (p : Progress) (f : Field) where
   abbrev Graph : Judged Walk
-  Graph = graphAgain model (fills (length cells)) depth main (walkIn model cells p) f
+  Graph = graphAgain model (fills (length cells)) depth around (walkIn model cells p) f
 
   pub graph-deep : depth ≡ 0 → refused 6 (f .place) ≡ Graph
   unfolding graphAgain
-  graph-deep e = ap (λ (d : ℕ). graphAgain model (fills (length cells)) d main (walkIn model cells p) f) (sym e)
+  graph-deep e = ap (λ (d : ℕ). graphAgain model (fills (length cells)) d around (walkIn model cells p) f) (sym e)
 
   abbrev Opening : Judged Walk
-  Opening = opening model (fills (length cells)) main (walkIn model cells p) f
+  Opening = opening model (fills (length cells)) around (walkIn model cells p) f
 
   abbrev Nodes : ℕ → Walk → List Field → Judged Walk
-  Nodes size v l = each (nodeAgain model (fills size) (Nested model (depth - 1) size) f) v l
+  Nodes size v l = each (nodeAgain model (fills size) (Nested model (depth - 1) around size) f) v l
 
   Outputs : Walk → Judged Walk
-  Outputs n = each (output model (context model main)) n (allOf Graph·output (message model f))
+  Outputs n = each (output model (context model around)) n (allOf Graph·output (message model f))
 
   Opened : Walk → Judged Walk
   Opened v = Nodes (length cells) v (allOf Graph·node (message model f)) >>= Outputs
@@ -96,9 +98,9 @@ module _ (model : Bytes) (depth : ℕ) (main : Bool) (cells : List ℕ) (p : Pro
       where
         go : (d : ℕ) → (d ≡ 0 → ⊥)
             → (Opening
-            >>= λ v. each (nodeAgain model (fills (length cells)) (Nested model (d - 1) (length cells)) f) v (allOf Graph·node (message model f))
-            >>= λ n. each (output model (context model main)) n (allOf Graph·output (message model f)))
-            ≡ graphAgain model (fills (length cells)) d main (walkIn model cells p) f
+            >>= λ v. each (nodeAgain model (fills (length cells)) (Nested model (d - 1) around (length cells)) f) v (allOf Graph·node (message model f))
+            >>= λ n. each (output model (context model around)) n (allOf Graph·output (message model f)))
+            ≡ graphAgain model (fills (length cells)) d around (walkIn model cells p) f
         go zero i = absurd (i refl)
         go (suc d) i = let e : suc d - 1 ≡ d = omega arith in rw e refl
 
@@ -109,22 +111,22 @@ module _ (model : Bytes) (depth : ℕ) (main : Bool) (cells : List ℕ) (p : Pro
       -- nothing is counted before the nodes
       pub graph-still : first .nodes ≡ p .nodes
       unfolding stepSays walkIn
-      graph-still = opening-stays model (fills (length cells)) main (walkIn model cells p) f (walkIn model later first) (sym (says (stepSays model later) opened k))
+      graph-still = opening-stays model (fills (length cells)) around (walkIn model cells p) f (walkIn model later first) (sym (says (stepSays model later) opened k))
 
       pub first-low : {kind : Kind} → Enters model kind p f → first .nodes ≤ f .start
       first-low n = let low = enters-low n in let still = graph-still in omega arith
 
-      first-odd : first .odd ≤ p .odd + length (openingNames model main f)
+      first-odd : first .odd ≤ p .odd + length (openingNames model (around .main) f)
       unfolding stepSays walkIn
       first-odd =
-          passed-tells _ Any _ _ (grew-few (walkIn model cells p) 0 (openingNames model main f) Opening
-          (opening-grew model (fills (length cells)) main (walkIn model cells p) f))
+          passed-tells _ Any _ _ (grew-few (walkIn model cells p) 0 (openingNames model (around .main) f) Opening
+          (opening-grew model (fills (length cells)) around (walkIn model cells p) f))
           (sym (says (stepSays model later) opened k))
 
-      pub nodes-countable : Countable p (namesIn model depth main f)
+      pub nodes-countable : Countable p (namesIn model depth (around .main) f)
           → Countable first (flatMap (nodeNames model (Inner model depth)) (allFrom model Graph·node (f .next) (f .start)))
       unfolding Countable allFrom allOf message
-      nodes-countable room = let n = names-all model depth main f h in let o = first-odd in omega arith
+      nodes-countable room = let n = names-all model depth (around .main) f h in let o = first-odd in omega arith
 
       nodes-by : (Nodes (length later) (walkIn model later first) (allFrom model Graph·node (f .next) (f .start)) >>= Outputs) ≡ Graph
       unfolding stepSays Opened contentsOf _>>=_
@@ -142,24 +144,24 @@ module _ (model : Bytes) (depth : ℕ) (main : Bool) (cells : List ℕ) (p : Pro
         -- the loop over the nodes
         module _ {now : List ℕ} {q : Progress} {c : Cursor}
             (g : Going model Graph·node (f .next) (f .start) (nodeNames model (Inner model depth))
-            (λ size. nodeAgain model (fills size) (Nested model (depth - 1) size) f)
+            (λ size. nodeAgain model (fills size) (Nested model (depth - 1) around size) f)
             (Nodes (length later) (walkIn model later first) (allFrom model Graph·node (f .next) (f .start))) later first now q c) where
           -- r is the tally of the outputs
-          module _ (r : Tally) (ruled : (k : Context) (w : Walk) → k .main ≡ main → w .scope ≡ scopeIn model now (q .used)
+          module _ (r : Tally) (ruled : (k : Context) (w : Walk) → k .main ≡ around .main → w .scope ≡ scopeIn model now (q .used)
               → tallySays w r ≡ each (output model k) w (allOf Graph·output (message model f))) where
-            pub outputs-fit : Countable p (namesIn model depth main f) → Addable (q .odd) r
+            pub outputs-fit : Countable p (namesIn model depth (around .main) f) → Addable (q .odd) r
             unfolding Countable allFrom allOf message context
             outputs-fit room =
-                let n = names-all model depth main f h in
+                let n = names-all model depth (around .main) f h in
                 let o = first-odd in
                 let odd = going-odd g in
-                addable (q .odd) r (q .odd) (length (flatMap (valueNames model main) (allOf Graph·output (message model f)))) (omega arith)
-                (λ l i. outputs-few model (context model main) (allOf Graph·output (message model f)) (scopeIn model now (q .used))
-                (λ w e. ruled (context model main) w refl e) i) (omega arith)
+                addable (q .odd) r (q .odd) (length (flatMap (valueNames model (around .main)) (allOf Graph·output (message model f)))) (omega arith)
+                (λ l i. outputs-few model (context model around) (allOf Graph·output (message model f)) (scopeIn model now (q .used))
+                (λ w e. ruled (context model around) w refl e) i) (omega arith)
 
           module _ {a : Sought} (read : soughtSays a ≡ soughtIn model Graph·node (c .end) (c .at)) where
             module _ {d : Field} {next : Cursor} (e : a ≡ sought.Found d next) {last : List ℕ} (t : Step)
-                (judged : stepSays model last t ≡ nodeAgain model (fills (length now)) (Nested model (depth - 1) (length now)) f (walkIn model now q) d)
+                (judged : stepSays model last t ≡ nodeAgain model (fills (length now)) (Nested model (depth - 1) around (length now)) f (walkIn model now q) d)
                 (on : grows q t) (held : Keeps (q .used) now last) where
               pub nodes-stop : {x : Refusal} → t ≡ step.Refused x → Promised model Graph cells last p f t
               nodes-stop i =
@@ -167,7 +169,7 @@ module _ (model : Bytes) (depth : ℕ) (main : Bool) (cells : List ℕ) (p : Pro
                   refusing model p i (refused-bind model last Outputs (u .0) i ∙ nodes-by) (keeps-then kept (keeps-fewer first-more (u .1)))
 
             pub nodes-done : {kind : Kind} → Enters model kind p f → a ≡ sought.Missing → (r : Tally)
-                → ((k : Context) (w : Walk) → k .main ≡ main → w .scope ≡ scopeIn model now (q .used)
+                → ((k : Context) (w : Walk) → k .main ≡ around .main → w .scope ≡ scopeIn model now (q .used)
                 → tallySays w r ≡ each (output model k) w (allOf Graph·output (message model f)))
                 → {t : Step} → t ≡ counting q r
                 → Promised model Graph cells now p f t
@@ -181,7 +183,7 @@ module _ (model : Bytes) (depth : ℕ) (main : Bool) (cells : List ℕ) (p : Pro
                 record {
                   answer = ap (stepSays model now) i
                       ∙ counting-says model now q r
-                      ∙ ruled (context model main) (walkIn model now q) refl refl
+                      ∙ ruled (context model around) (walkIn model now q) refl refl
                       ∙ ap (λ (o : Judged Walk). o >>= Outputs) (d .0)
                       ∙ nodes-by;
                   grown = rw i (counting-more p q r (grows-then p first (step.Went q) (subst (grows p) k more) (d .1 .0)));

@@ -23,7 +23,8 @@ use Rattle.rules.specs.Count.{attributeNames, nodeNames, namesIn}
 use Rattle.schema.specs.declared.Kind.{Kind}
 use Rattle.scope.specs.Scope.{scopeIn, walkIn, stepSays, counting, Countable, grows, Enters, counted, Keeps}
 use Rattle.values.specs.Answers.{tallySays, Addable}
-use Rattle.messages.specs.Again.{fieldNames, nodeRules, closing, attributeAgain, nodeAgain}
+use Rattle.messages.specs.Again.{inside, fieldNames, nodeRules, closing, attributeAgain, nodeAgain}
+use Rattle.messages.specs.declared.contexts.Surroundings.{Surroundings}
 use Rattle.values.specs.declared.tallies.Tally.{Tally}
 use Rattle.scope.specs.declared.scopes.Progress.{Progress}
 use Rattle.scope.specs.declared.scopes.Step.{Step}
@@ -67,10 +68,11 @@ module _ (model : Bytes) (depth : ℕ) (p : Progress) (f : Field) (room : Counta
       (λ l i. rules-few model graph f scope ruled i) (omega arith)
 
 -- no more is counted of an attribute than it has names
-pub attributes-count : (model : Bytes) (depth : ℕ) (f : Field)
-    → Counts (attributeNames model (namesIn model depth false)) (λ size. attributeAgain model (fills size) (Nested model depth size) f)
-attributes-count model depth f size w a =
-    attribute-most model (fills size) (Nested model depth size) (namesIn model depth false) (again-most model (fills size) depth false) f w a
+pub attributes-count : (model : Bytes) (depth : ℕ) (around : Surroundings) (f : Field)
+    → Counts (attributeNames model (namesIn model depth false)) (λ size. attributeAgain model (fills size) (Nested model depth around size) f)
+unfolding inside
+attributes-count model depth around f size w a =
+    attribute-most model (fills size) (Nested model depth around size) (namesIn model depth false) (again-most model (fills size) depth (inside around)) f w a
 
 -- t is the tally of its rules, and s the step of that, which only counts
 pub node-first : (model : Bytes) (graph : Field) (scope : List Name) (p : Progress) (f : Field) (t : Tally)
@@ -80,13 +82,13 @@ pub node-first : (model : Bytes) (graph : Field) (scope : List Name) (p : Progre
     × (first .odd ≤ p .odd + (2 + length (flatMap (fieldNames model) (allOf Node·input (message model f)))))
 node-first model graph scope p f t ruled stepped k = counting-few p t _ (λ l i. rules-few model graph f scope ruled i) stepped k
 
-module _ (model : Bytes) (depth : ℕ) (graph : Field) (cells : List ℕ) (p : Progress) (f : Field) (t : Tally)
+module _ (model : Bytes) (depth : ℕ) (around : Surroundings) (graph : Field) (cells : List ℕ) (p : Progress) (f : Field) (t : Tally)
     (ruled : (w : Walk) → w .scope ≡ scopeIn model cells (p .used) → tallySays w t ≡ nodeRules model graph w f) {s : Step} (stepped : s ≡ counting p t) where
   abbrev Node : Judged Walk
-  Node = nodeAgain model (fills (length cells)) (Nested model depth (length cells)) graph (walkIn model cells p) f
+  Node = nodeAgain model (fills (length cells)) (Nested model depth around (length cells)) graph (walkIn model cells p) f
 
   abbrev Attributes : List Field → Walk → Judged Walk
-  Attributes l w = each (attributeAgain model (fills (length cells)) (Nested model depth (length cells)) f) w l
+  Attributes l w = each (attributeAgain model (fills (length cells)) (Nested model depth around (length cells)) f) w l
 
   Closed : Judged Walk → Judged Walk
   Closed o = o >>= λ v. closing model (fills (length cells)) v f
@@ -119,7 +121,7 @@ module _ (model : Bytes) (depth : ℕ) (graph : Field) (cells : List ℕ) (p : P
     -- the loop over the attributes
     module _ {later : List ℕ} {q : Progress} {c : Cursor}
         (g : Going model Node·attribute (f .next) (f .start) (attributeNames model (namesIn model depth false))
-        (λ size. attributeAgain model (fills size) (Nested model depth size) f)
+        (λ size. attributeAgain model (fills size) (Nested model depth around size) f)
         (Attributes (allFrom model Node·attribute (f .next) (f .start)) (walkIn model cells first)) cells first later q c) where
       -- and then those of the outputs
       pub closing-countable : Countable p (nodeNames model (namesIn model depth false) f)
@@ -134,7 +136,7 @@ module _ (model : Bytes) (depth : ℕ) (graph : Field) (cells : List ℕ) (p : P
       module _ {a : Sought} (read : soughtSays a ≡ soughtIn model Node·attribute (c .end) (c .at)) where
         module _ {d : Field} {next : Cursor} (e : a ≡ sought.Found d next) {last : List ℕ} (r : Step)
             (judged : stepSays model last r
-            ≡ attributeAgain model (fills (length later)) (Nested model depth (length later)) f (walkIn model later q) d) (more : grows q r)
+            ≡ attributeAgain model (fills (length later)) (Nested model depth around (length later)) f (walkIn model later q) d) (more : grows q r)
             (kept : Keeps (q .used) later last) where
           pub attributes-stop : {x : Refusal} → r ≡ step.Refused x → Promised model Node cells last p f r
           unfolding Closed

@@ -47,10 +47,6 @@ pub promised-and : {model : Bytes} {o : Judged Walk} {cells later : List ℕ} {p
     → (stepSays model later r ≡ o) × (grows p r × (counted f p r × (Keeps (p .used) cells later × A)))
 promised-and a x = (a .answer, (a .grown, (a .counts, (a .kept, x))))
 
--- a nested graph is not the main one
-pub not-main : {A : Type 0} → false ≡ true → A
-not-main e = absurd (subst T (sym e) tt)
-
 -- a refusal promises nothing of the counts
 pub refusing : (model : Bytes) {o : Judged Walk} {cells later : List ℕ} (p : Progress) {f : Field} {r : Step} {x : Refusal}
     → r ≡ step.Refused x → stepSays model later r ≡ o → Keeps (p .used) cells later

@@ -1,7 +1,7 @@
 // "A graph judges nodes, a node judges attributes, and an attribute judges graphs, to depth 8, the main graph being depth 1." A graph
 // inside another is shorter than it, so the three come to an end; `left` depths are left.
 ghost use mathlib.Core.Path.{_≡_};
-ghost use mathlib.Core.Bool.{true, false};
+ghost use mathlib.Core.Bool.{false};
 ghost use lib.ListN.{length, drop};
 ghost use Rattle.rules.specs.Verdict.{fills};
 ghost use Rattle.rules.specs.Count.{attributeNames, nodeNames, namesIn};
@@ -11,8 +11,9 @@ ghost use Rattle.index.specs.Listing.{Listed};
 ghost use Rattle.headers.specs.Earlier.{earlierIn};
 ghost use Rattle.scope.specs.Scope.{walkIn, stepSays, grows, counted, Enters, Countable, Keeps};
 ghost use Rattle.scope.specs.Recall.{Minds, Minded};
-ghost use Rattle.messages.specs.Again.{attributeAgain, nodeAgain, graphAgain};
+ghost use Rattle.messages.specs.Again.{inside, attributeAgain, nodeAgain, graphAgain};
 use index::Listing;
+use messages::Surroundings;
 use nodes::attribute_head;
 use nodes::closing;
 use nodes::graph_outputs;
@@ -44,15 +45,14 @@ pub fn graph(
     ix: Index,
     top: usize,
     left: usize,
-    main: bool,
+    s: Surroundings,
     p: Progress,
     f: Field,
 ) -> Step
     requires { ⌜ Enters (now model) Graph p f ⌝ }
     requires { ⌜ Minds (now model) ix top (now cells) (now extra) ⌝ }
-    requires { ⌜ (main ≡ true → p .used ≡ 0) ⌝ }
-    requires { ⌜ Countable p (namesIn (now model) left main f) ⌝ }
-    ensures answer { λ r. ⌜ stepSays (now (model .entry)) (now (cells .exit)) r ≡ graphAgain (now (model .entry)) (fills (length (now (cells .entry)))) left main (walkIn (now (model .entry)) (now (cells .entry)) p) f ⌝ }
+    requires { ⌜ Countable p (namesIn (now model) left (s .main) f) ⌝ }
+    ensures answer { λ r. ⌜ stepSays (now (model .entry)) (now (cells .exit)) r ≡ graphAgain (now (model .entry)) (fills (length (now (cells .entry)))) left s (walkIn (now (model .entry)) (now (cells .entry)) p) f ⌝ }
     ensures grown { λ r. ⌜ grows p r ⌝ }
     ensures counts { λ r. ⌜ counted f p r ⌝ }
     ensures kept { λ _. ⌜ Keeps (p .used) (now (cells .entry)) (now (cells .exit)) ⌝ }
@@ -61,7 +61,7 @@ pub fn graph(
     if left == 0 {
         return stopped(Ruling::TOO_DEEP, f.place);
     }
-    let opened = opening(model, cells, extra, ix, top, main, p, f);
+    let opened = opening(model, cells, extra, ix, top, s, p, f);
     let Step::Went(first) = opened else {
         return opened;
     };
@@ -75,9 +75,9 @@ pub fn graph(
     loop {
         let sought = c.next_of(model, GRAPH_NODE);
         let Sought::Found(n, next) = sought else {
-            return counting(q, graph_outputs(model, cells, extra, ix, q.used, main, f));
+            return counting(q, graph_outputs(model, cells, extra, ix, q.used, s.main, f));
         };
-        let step = node(model, cells, extra, ix, l, left - 1, f, q, n);
+        let step = node(model, cells, extra, ix, l, left - 1, s, f, q, n);
         let Step::Went(further) = step else {
             return step;
         };
@@ -95,6 +95,7 @@ fn node(
     ix: Index,
     l: Listing,
     left: usize,
+    s: Surroundings,
     graph: Field,
     p: Progress,
     f: Field,
@@ -103,7 +104,7 @@ fn node(
     requires { ⌜ Minds (now model) ix (l .top) (now cells) (now extra) ⌝ }
     requires { ⌜ Listed (now model) (ix .seed) (drop (ix .split) (now extra)) l (earlierIn (now model) Graph·node Node·name graph f) ⌝ }
     requires { ⌜ Countable p (nodeNames (now model) (namesIn (now model) left false) f) ⌝ }
-    ensures answer { λ r. ⌜ stepSays (now (model .entry)) (now (cells .exit)) r ≡ nodeAgain (now (model .entry)) (fills (length (now (cells .entry)))) (λ v g. graphAgain (now (model .entry)) (fills (length (now (cells .entry)))) left false v g) graph (walkIn (now (model .entry)) (now (cells .entry)) p) f ⌝ }
+    ensures answer { λ r. ⌜ stepSays (now (model .entry)) (now (cells .exit)) r ≡ nodeAgain (now (model .entry)) (fills (length (now (cells .entry)))) (λ v g. graphAgain (now (model .entry)) (fills (length (now (cells .entry)))) left (inside s) v g) graph (walkIn (now (model .entry)) (now (cells .entry)) p) f ⌝ }
     ensures grown { λ r. ⌜ grows p r ⌝ }
     ensures counts { λ r. ⌜ counted f p r ⌝ }
     ensures kept { λ _. ⌜ Keeps (p .used) (now (cells .entry)) (now (cells .exit)) ⌝ }
@@ -125,7 +126,7 @@ fn node(
         let Sought::Found(a, next) = sought else {
             return closing(model, cells, extra, ix, q, f);
         };
-        let step = attribute(model, cells, extra, ix, own, left, f, q, a);
+        let step = attribute(model, cells, extra, ix, own, left, s, f, q, a);
         let Step::Went(further) = step else {
             return step;
         };
@@ -143,6 +144,7 @@ fn attribute(
     ix: Index,
     l: Listing,
     left: usize,
+    s: Surroundings,
     n: Field,
     p: Progress,
     f: Field,
@@ -151,7 +153,7 @@ fn attribute(
     requires { ⌜ Minds (now model) ix (l .top) (now cells) (now extra) ⌝ }
     requires { ⌜ Listed (now model) (ix .seed) (drop (ix .split) (now extra)) l (earlierIn (now model) Node·attribute Attribute·name n f) ⌝ }
     requires { ⌜ Countable p (attributeNames (now model) (namesIn (now model) left false) f) ⌝ }
-    ensures answer { λ r. ⌜ stepSays (now (model .entry)) (now (cells .exit)) r ≡ attributeAgain (now (model .entry)) (fills (length (now (cells .entry)))) (λ v g. graphAgain (now (model .entry)) (fills (length (now (cells .entry)))) left false v g) n (walkIn (now (model .entry)) (now (cells .entry)) p) f ⌝ }
+    ensures answer { λ r. ⌜ stepSays (now (model .entry)) (now (cells .exit)) r ≡ attributeAgain (now (model .entry)) (fills (length (now (cells .entry)))) (λ v g. graphAgain (now (model .entry)) (fills (length (now (cells .entry)))) left (inside s) v g) n (walkIn (now (model .entry)) (now (cells .entry)) p) f ⌝ }
     ensures grown { λ r. ⌜ grows p r ⌝ }
     ensures counts { λ r. ⌜ counted f p r ⌝ }
     ensures kept { λ _. ⌜ Keeps (p .used) (now (cells .entry)) (now (cells .exit)) ⌝ }
@@ -172,7 +174,7 @@ fn attribute(
         let Sought::Found(g, next) = sought else {
             return Step::Went(q);
         };
-        let step = graph(model, cells, extra, ix, l.top, left, false, q, g);
+        let step = graph(model, cells, extra, ix, l.top, left, s.nested(), q, g);
         let Step::Went(inside) = step else {
             return step;
         };

@@ -32,13 +32,13 @@ use Rattle.headers.proofs.ImportLaws.{All, imports-agree}
 use Rattle.headers.proofs.Silent.{silent-fails, silent-passes}
 use Rattle.values.proofs.RulingLaws.{ruled-kept, ruled-refused}
 
-pub version-below : (n : ℕ) → n < 4 → false ≡ within 4 10 n
+pub version-below : (n : ℕ) → n < 3 → false ≡ within 3 11 n
 unfolding within
-version-below n h = simp (lt-leb 4 n h)
+version-below n h = simp (lt-leb 3 n h)
 
-pub version-rest : (n : ℕ) → 4 ≤ n → leb n 10 ≡ within 4 10 n
+pub version-rest : (n : ℕ) → 3 ≤ n → leb n 11 ≡ within 3 11 n
 unfolding within
-version-rest n h = simp (le-leb 4 n h)
+version-rest n h = simp (le-leb 3 n h)
 
 -- ---- one reading of the model's own fields
 
@@ -90,15 +90,15 @@ module _ {o : Option Field} where
   unfolding present
   has-some e = ap present e
 
-module _ (model list : Bytes) {m : Field} (em : m ≡ whole model) {n : ℕ} (en : n ≡ numberOf Model·ir-version (message model m)) {b : Bool} (eb : b ≡ within 4 10 n) where
+module _ (model list : Bytes) {m : Field} (em : m ≡ whole model) {n : ℕ} (en : n ≡ numberOf Model·ir-version (message model m)) {b : Bool} (eb : b ≡ within 3 11 n) where
   abbrev Answer : Rule
   Answer = silent (header model list (message model (whole model)))
 
   answers : {o : Judged (List Bytes)} → header model list (message model m) ≡ o → silent o ≡ Answer
   answers e = ap silent (sym e) ∙ ap (λ (f : Field). silent (header model list (message model f))) em
 
-  version : {t : Bool} → b ≡ t → not (within 4 10 (numberOf Model·ir-version (message model m))) ≡ not t
-  version k = ap (λ (v : ℕ). not (within 4 10 v)) (sym en) ∙ ap not (sym eb ∙ k)
+  version : {t : Bool} → b ≡ t → not (within 3 11 (numberOf Model·ir-version (message model m))) ≡ not t
+  version k = ap (λ (v : ℕ). not (within 3 11 v)) (sym en) ∙ ap not (sym eb ∙ k)
 
   pub header-version : b ≡ false → {p : ℕ} → p ≡ placeOf Model·ir-version (message model m) → refused 10 p ≡ Answer
   unfolding header silent _>>=_

@@ -27,14 +27,14 @@ use values::numbers::MODEL_OPSET_IMPORT;
 use varint::Refusal;
 use wire::Outline;
 
-// "ir_version outside 4..10" is refused.
+// "Refusal 10 now means outside 3..11."
 fn is_ir_version(version: u64) -> bool
-    ensures { λ r. ⌜ r ≡ within 4 10 version ⌝ }
+    ensures { λ r. ⌜ r ≡ within 3 11 version ⌝ }
 {
-    if version < 4 {
+    if version < 3 {
         return false;
     }
-    version <= 10
+    version <= 11
 }
 
 fn unheaded(number: u8, place: usize) -> Heading

@@ -50,7 +50,7 @@ pub(crate) fn has_from(model: &[u8], m: Field, number: u64, at: usize) -> bool
     }
 }
 
-pub(crate) fn number_from(model: &[u8], m: Field, number: u64, at: usize) -> u64
+pub fn number_from(model: &[u8], m: Field, number: u64, at: usize) -> u64
     requires { ⌜ Starts (now model) m number at ⌝ }
     ensures { λ r. ⌜ r ≡ numberOf number (message (now (model .entry)) m) ⌝ }
 {

@@ -51,7 +51,7 @@ module _ {model : Bytes} {seed top : ℕ} {y : Bytes} {before after : List ℕ} 
 
 -- ---- a search, with one name more
 
-since-more : (x y : Bytes) (older : List Bytes) (base : ℕ) → base ≤ length older → since base (seek x (y ∷ older)) ≡ (same x y || since base (seek x older))
+pub since-more : (x y : Bytes) (older : List Bytes) (base : ℕ) → base ≤ length older → since base (seek x (y ∷ older)) ≡ (same x y || since base (seek x older))
 unfolding seek since
 since-more x y older base h = go (same x y)
   where

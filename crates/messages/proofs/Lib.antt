@@ -1,2 +1,3 @@
 pub mod AttributeLaws
 pub mod NodeLaws
+pub mod ContextLaws

@@ -11,19 +11,25 @@ use Rattle.varint.specs.Bytes.{Bytes}
 use Rattle.wire.specs.Message.{allOf, firstOf, numberOf, placeOf, text, bytesOf, message}
 use Rattle.schema.specs.Numbers.{Graph·node, Graph·name, Graph·initializer, Graph·input, Graph·output, Graph·sparse-initializer}
 use Rattle.schema.specs.Numbers.{Tensor·name, Tensor·data-type, Node·input, Node·output, Node·attribute}
-use Rattle.rules.specs.Names.{nameOf, inputsOf, bodiesOf}
+use Rattle.rules.specs.Names.{Name, nameOf, inputsOf, bodiesOf}
 use Rattle.rules.specs.Walk.{Context, Walk, GraphJudge, withNode, naming}
 use Rattle.rules.specs.Types.{isElement}
 use Rattle.rules.specs.Count.{valueNames}
 use Rattle.rules.specs.Node.{nodeInput, nodeOutput, body}
-use Rattle.rules.specs.Graph.{defaultOrNew, input, output}
+use Rattle.rules.specs.Graph.{lacksInput, defaultOrNew, input, output}
 use Rattle.headers.specs.Earlier.{earlierIn}
 use Rattle.headers.specs.Imports.{importsIn}
 use Rattle.messages.specs.Heads.{attributeRules, nodeHead}
+use Rattle.messages.specs.declared.contexts.Surroundings.{Surroundings}
+
+-- A graph inside this one.
+unfoldable pub inside : Surroundings → Surroundings
+inside s = record { main = false; version = s .version }
 
 module _ (model : Bytes) where
-  unfoldable pub context : (main : Bool) → Context
-  context main = record { imports = importsIn model; main = main }
+  -- What surrounds a graph, with the imports as they are read again.
+  unfoldable pub context : Surroundings → Context
+  context s = record { imports = importsIn model; main = s .main; ir-version = s .version }
 
   -- The names that are tested: of a field that is a name, of an initializer, and of a graph up to its nodes.
   unfoldable pub fieldNames : Field → List Bytes
@@ -52,22 +58,29 @@ module _ (model : Bytes) where
     pass t
 
   module _ (full : ℕ → Bool) where
-    unfoldable pub initializerAgain : (main : Bool) → (graph : Field) → Walk → Field → Judged Walk
-    initializerAgain main graph w f = do
+    -- "43 (after 21, before 23)", and then a default or a new name.
+    unfoldable pub declaring : Surroundings → (graph f : Field) → Walk → Name → Judged Walk
+    declaring s graph f w x = do
+      let inputs = inputsOf model (message model graph)
+      refuse 43 at: x .place when: lacksInput (context s) inputs (x .bytes)
+      defaultOrNew full (context s) inputs (earlierIn model Graph·initializer Tensor·name graph f) w x
+
+    unfoldable pub initializerAgain : Surroundings → (graph : Field) → Walk → Field → Judged Walk
+    initializerAgain s graph w f = do
       let m = message model f
       let x = nameOf model Tensor·name m
       t ← naming 22 w x
-      v ← defaultOrNew full (context main) (inputsOf model (message model graph)) (earlierIn model Graph·initializer Tensor·name graph f) t x
+      v ← declaring s graph f t x
       refuse 26 at: placeOf Tensor·data-type m when: not (isElement (numberOf Tensor·data-type m))
       pass v
 
     -- A graph up to its nodes.
-    unfoldable pub opening : (main : Bool) → Walk → Field → Judged Walk
-    opening main w f = do
+    unfoldable pub opening : Surroundings → Walk → Field → Judged Walk
+    opening s w f = do
       let g = message model f
       t ← graphRules w f
-      v ← each (input model full (context main)) t (allOf Graph·input g)
-      each (initializerAgain main f) v (allOf Graph·initializer g)
+      v ← each (input model full (context s)) t (allOf Graph·input g)
+      each (initializerAgain s f) v (allOf Graph·initializer g)
 
     -- A node after its attributes: "34; outputs".
     unfoldable pub closing : Walk → Field → Judged Walk
@@ -89,13 +102,13 @@ module _ (model : Bytes) where
         v ← each (attributeAgain f) t (allOf Node·attribute (message model f))
         closing v f
 
-      unfoldable pub graphFrom : (main : Bool) → Walk → Field → Judged Walk
-      graphFrom main w f = do
+      unfoldable pub graphFrom : Surroundings → Walk → Field → Judged Walk
+      graphFrom s w f = do
         let g = message model f
-        v ← opening main w f
+        v ← opening s w f
         n ← each (nodeAgain f) v (allOf Graph·node g)
-        each (output model (context main)) n (allOf Graph·output g)
+        each (output model (context s)) n (allOf Graph·output g)
 
-    unfoldable pub graphAgain : (left : ℕ) → (main : Bool) → GraphJudge
-    graphAgain zero main w f = refused 6 (f .place)
-    graphAgain (suc left) main w f = graphFrom (λ v g. graphAgain left false v g) main w f
+    unfoldable pub graphAgain : (left : ℕ) → Surroundings → GraphJudge
+    graphAgain zero s w f = refused 6 (f .place)
+    graphAgain (suc left) s w f = graphFrom (λ v g. graphAgain left (inside s) v g) s w f

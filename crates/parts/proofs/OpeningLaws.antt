@@ -18,15 +18,19 @@ use Rattle.varint.proofs.Answers.{says}
 use Rattle.varint.proofs.Refusing.{when-broken, when-kept}
 use Rattle.schema.specs.Numbers.{Graph·name, Graph·initializer, Graph·input, Graph·sparse-initializer, ValueInfo·name}
 use Rattle.rules.specs.Names.{Name, nameOf, inputsOf}
-use Rattle.rules.specs.Walk.{Context, Walk, start, withName, visible, naming, define}
+use Rattle.rules.specs.Walk.{Context, Walk, start, withName, naming, define}
 use Rattle.rules.specs.Verdict.{fills}
 use Rattle.rules.specs.Graph.{input}
 use Rattle.rules.specs.Count.{odds, valueNames}
 use Rattle.rules.proofs.Rules.{Adds, odds-append, naming-tells}
 use Rattle.rules.proofs.Counting.{past, Grew, names-each, grew-type, grew-input}
 use Rattle.rules.proofs.NamesFew.{odds-few}
-use Rattle.scope.specs.Scope.{scopeIn, walkIn, stepSays, counting, Countable, grows, Keeps, Defaultable}
+use Rattle.scope.specs.Scope.{bytesIn, walkIn, stepSays, counting, Countable, grows, Keeps, Defaultable}
 use Rattle.messages.specs.Again.{context, tensorNames, openingNames, graphRules, initializerAgain, opening}
+use Rattle.messages.specs.declared.contexts.Surroundings.{Surroundings}
+use Rattle.index.specs.Table.{seek, since}
+use Rattle.index.proofs.UseLaws.{since-none}
+use Rattle.index.proofs.ListingLaws.{since-more}
 use Rattle.values.specs.Answers.{more, tallySays, namingSays, nameField, tallyOf, Addable}
 use Rattle.values.specs.declared.names.Naming.{Naming}
 use Rattle.values.specs.declared.names.Naming.the-variants as naming-answer
@@ -35,8 +39,8 @@ use Rattle.values.specs.declared.tallies.Tally.the-variants as tally
 use Rattle.scope.specs.declared.scopes.Progress.{Progress}
 use Rattle.scope.specs.declared.scopes.Step.{Step}
 use Rattle.scope.specs.declared.scopes.Step.the-variants as step
-use Rattle.scope.proofs.ScopeLaws.{keeps-all, keeps-fewer, keeps-then}
-use Rattle.scope.proofs.StepLaws.{counting-says, counting-grows, counting-few, countable-adds}
+use Rattle.scope.proofs.ScopeLaws.{bytes-length, keeps-all, keeps-fewer, keeps-then}
+use Rattle.scope.proofs.StepLaws.{plain, counting-says, counting-grows, counting-few, countable-adds}
 use Rattle.values.proofs.NameLaws.{named-tally, named-passes, named-fails}
 use Rattle.values.proofs.TallyLaws.{tally-few}
 use Rattle.parts.proofs.InitializerLaws.{initializer-grew}
@@ -77,20 +81,20 @@ unfolding grows
 grows-then p q (step.Went u) h k = omega arith
 grows-then p q (step.Refused x) h k = tt
 
-module _ (model : Bytes) (main : Bool) (cells : List ℕ) (p : Progress) (f : Field) where
+module _ (model : Bytes) (s : Surroundings) (cells : List ℕ) (p : Progress) (f : Field) where
   abbrev Opened : Judged Walk
-  Opened = opening model (fills (length cells)) main (walkIn model cells p) f
+  Opened = opening model (fills (length cells)) s (walkIn model cells p) f
 
   abbrev Inputs : Context → Walk → Judged Walk
   Inputs c w = each (input model (fills (length cells)) c) w (allOf Graph·input (message model f))
 
   abbrev Initializers : (size : ℕ) → Walk → Judged Walk
-  Initializers size v = each (initializerAgain model (fills size) main f) v (allOf Graph·initializer (message model f))
+  Initializers size v = each (initializerAgain model (fills size) s f) v (allOf Graph·initializer (message model f))
 
   opening-by : {o : Judged Walk} → o ≡ graphRules model (walkIn model cells p) f
-      → (o >>= λ w. Inputs (context model main) w >>= Initializers (length cells)) ≡ Opened
+      → (o >>= λ w. Inputs (context model s) w >>= Initializers (length cells)) ≡ Opened
   unfolding opening
-  opening-by e = ap (λ (o : Judged Walk). o >>= λ w. Inputs (context model main) w >>= Initializers (length cells)) e
+  opening-by e = ap (λ (o : Judged Walk). o >>= λ w. Inputs (context model s) w >>= Initializers (length cells)) e
 
   -- n is the step of that
   module _ (r : Tally) (ruled : (w : Walk) → tallySays w r ≡ graphRules model w f) {n : Step} (stepped : n ≡ counting p r) where
@@ -104,26 +108,26 @@ module _ (model : Bytes) (main : Bool) (cells : List ℕ) (p : Progress) (f : Fi
     unfolding stepSays grows _>>=_
     opening-refused {x} k = (ap (stepSays model cells) k ∙ opening-by (named k), (rw k tt, keeps-all _ _))
 
-    -- s is the answer for the inputs, with the cells `later`
-    module _ {t : Progress} (k : n ≡ step.Went t) (later : List ℕ) (s : Step)
-        (answer : (c : Context) → c .main ≡ main → stepSays model later s ≡ Inputs c (walkIn model cells t))
-        (more : grows t s) (kept : Keeps (t .used) cells later) where
+    -- a is the answer for the inputs, with the cells `later`
+    module _ {t : Progress} (k : n ≡ step.Went t) (later : List ℕ) (a : Step)
+        (answer : (c : Context) → c .main ≡ s .main → stepSays model later a ≡ Inputs c (walkIn model cells t))
+        (more : grows t a) (kept : Keeps (t .used) cells later) where
       still : Keeps (p .used) cells later
       unfolding grows
       still = keeps-fewer (begun k) kept
 
-      opening-ruled : {u : Step} → s ≡ u → (stepSays model later u >>= Initializers (length cells)) ≡ Opened
+      opening-ruled : {u : Step} → a ≡ u → (stepSays model later u >>= Initializers (length cells)) ≡ Opened
       unfolding context stepSays _>>=_
       opening-ruled e =
-          ap (λ (o : Judged Walk). o >>= Initializers (length cells)) (says (stepSays model later) (answer (context model main) refl) e)
+          ap (λ (o : Judged Walk). o >>= Initializers (length cells)) (says (stepSays model later) (answer (context model s) refl) e)
           ∙ opening-by (named k)
 
-      pub opening-stops : {x : Refusal} → s ≡ step.Refused x → (stepSays model later s ≡ Opened) × (grows p s × Keeps (p .used) cells later)
+      pub opening-stops : {x : Refusal} → a ≡ step.Refused x → (stepSays model later a ≡ Opened) × (grows p a × Keeps (p .used) cells later)
       unfolding stepSays _>>=_
-      opening-stops e = (ap (stepSays model later) e ∙ opening-ruled e, (grows-then p t s (begun k) more, still))
+      opening-stops e = (ap (stepSays model later) e ∙ opening-ruled e, (grows-then p t a (begun k) more, still))
 
       -- u is the answer for the initializers, with the cells `last`
-      pub opening-goes : {q : Progress} → s ≡ step.Went q → (last : List ℕ) (u : Step)
+      pub opening-goes : {q : Progress} → a ≡ step.Went q → (last : List ℕ) (u : Step)
           → stepSays model last u ≡ Initializers (length later) (walkIn model later q) → grows q u
           → Keeps (q .used) later last
           → (stepSays model last u ≡ Opened) × (grows p u × Keeps (p .used) cells last)
@@ -149,27 +153,27 @@ module _ (model : Bytes) where
       let names = bytesOf model Graph·name (message model f) ∷ [] in
       tally-few start (e start) names (Adds start (odds names)) (λ v a. a .3) (rules-grew start f) i
 
-module _ (model : Bytes) (full : ℕ → Bool) (main : Bool) where
-  pub opening-grew : (w : Walk) (f : Field) → Tells (Grew w 0 (odds (openingNames model main f))) Any (opening model full main w f)
+module _ (model : Bytes) (full : ℕ → Bool) (s : Surroundings) where
+  pub opening-grew : (w : Walk) (f : Field) → Tells (Grew w 0 (odds (openingNames model (s .main) f))) Any (opening model full s w f)
   unfolding opening openingNames context
   opening-grew w f =
       let g = message model f in
       let x = bytesOf model Graph·name g in
-      let ins : List Bytes = flatMap (valueNames model main) (allOf Graph·input g) in
+      let ins : List Bytes = flatMap (valueNames model (s .main)) (allOf Graph·input g) in
       let values : List Bytes = flatMap (tensorNames model) (allOf Graph·initializer g) in
-      let R : Walk → Type 0 = Grew w 0 (odds (openingNames model main f)) in
-      let e : odds (openingNames model main f) ≡ odds (x ∷ []) + odds ins + odds values =
+      let R : Walk → Type 0 = Grew w 0 (odds (openingNames model (s .main) f)) in
+      let e : odds (openingNames model (s .main) f) ≡ odds (x ∷ []) + odds ins + odds values =
       odds-append (x ∷ ins) values ∙ ap (λ (n : ℕ). n + odds values) (odds-append (x ∷ []) ins) in
       tells-bind (Adds w (odds (x ∷ []))) R Any (graphRules model w f) _ (rules-grew model w f) (λ t h.
-      tells-bind (Grew t 0 (odds ins)) R Any (each (input model full (context model main)) t (allOf Graph·input g)) _
-      (names-each (λ v. v) (valueNames model main) (input model full (context model main)) (grew-input model full (context model main))
+      tells-bind (Grew t 0 (odds ins)) R Any (each (input model full (context model s)) t (allOf Graph·input g)) _
+      (names-each (λ v. v) (valueNames model (s .main)) (input model full (context model s)) (grew-input model full (context model s))
       (allOf Graph·input g) t) (λ v i.
-      tells-weaken (Grew v 0 (odds values)) R Any Any (each (initializerAgain model full main f) v (allOf Graph·initializer g))
+      tells-weaken (Grew v 0 (odds values)) R Any Any (each (initializerAgain model full s f) v (allOf Graph·initializer g))
       (λ u j. (omega arith, omega arith)) (λ r _. tt)
-      (names-each (λ u. u) (tensorNames model) (initializerAgain model full main f) (initializer-grew model full main f) (allOf Graph·initializer g) v)))
+      (names-each (λ u. u) (tensorNames model) (initializerAgain model full s f) (initializer-grew model full s f) (allOf Graph·initializer g) v)))
 
   -- it counts no node
-  pub opening-stays : (w : Walk) (f : Field) (v : Walk) → opening model full main w f ≡ pass v → v .nodes ≡ w .nodes
+  pub opening-stays : (w : Walk) (f : Field) (v : Walk) → opening model full s w f ≡ pass v → v .nodes ≡ w .nodes
   opening-stays w f v e = let g = passed-tells _ Any _ v (opening-grew w f) e in omega arith
 
 -- what is left of the room for them, after each
@@ -194,9 +198,6 @@ module _ (model : Bytes) (main : Bool) (p : Progress) (f : Field) (room : Counta
     after-name : (t .used ≡ p .used) × (t .nodes ≡ p .nodes) × (t .odd ≤ p .odd + 1)
     after-name = counting-few p r 1 (λ l i. rules-few model f ruled i) stepped e
 
-    pub opening-used : (main ≡ true → p .used ≡ 0) → main ≡ true → t .used ≡ 0
-    opening-used h i = after-name .0 ∙ h i
-
     pub opening-inputs : Countable t Ins
     unfolding Countable
     opening-inputs = let all = lengths in let h = room in let a = after-name .2 in omega arith
@@ -206,22 +207,25 @@ module _ (model : Bytes) (main : Bool) (p : Progress) (f : Field) (room : Counta
         → ((c : Context) → c .main ≡ main
         → stepSays model later s ≡ each (input model (fills (length cells)) c) (walkIn model cells t) (allOf Graph·input (message model f)))
         → {q : Progress} → s ≡ step.Went q → Countable q Values
-    unfolding Countable stepSays walkIn context
+    unfolding Countable stepSays walkIn
     opening-values cells later s answer {q} i =
-        let passed = sym (says (stepSays model later) (answer (context model main) refl) i) in
-        let g = passed-tells _ Any _ _ (names-each (λ v. v) (valueNames model main) (input model (fills (length cells)) (context model main))
-        (grew-input model (fills (length cells)) (context model main)) (allOf Graph·input (message model f)) (walkIn model cells t)) passed .1 in
+        let passed = sym (says (stepSays model later) (answer (plain main) refl) i) in
+        let g = passed-tells _ Any _ _ (names-each (λ v. v) (valueNames model main) (input model (fills (length cells)) (plain main))
+        (grew-input model (fills (length cells)) (plain main)) (allOf Graph·input (message model f)) (walkIn model cells t)) passed .1 in
         let few = odds-few Ins in
         let all = lengths in
         let h = room in
         let a = after-name .2 in
         omega arith
 
--- ---- after the inputs of the main graph, their names are the scope
+-- ---- the names of a graph's inputs are the records that they added
 
 module _ (model : Bytes) (full : ℕ → Bool) (c : Context) where
   abbrev Names : List Field → List Bytes
   Names l = map (λ f. bytesOf model ValueInfo·name (message model f)) l
+
+  abbrev Texts : List Name → List Bytes
+  Texts l = map (λ n. n .bytes) l
 
   input-scope : (w : Walk) (f : Field) (v : Walk) → input model full c w f ≡ pass v → v .scope ≡ nameOf model ValueInfo·name (message model f) ∷ w .scope
   unfolding input define withName
@@ -234,26 +238,31 @@ module _ (model : Bytes) (full : ℕ → Bool) (c : Context) where
       let z = passed-tells _ Any _ _ (grew-type model c (message model f) (defined .0)) (defined .2) .0 in
       z ∙ ap (λ (u : Walk). u .scope) (sym y) ∙ ap (λ (l : List Name). x ∷ l) t
 
-  inputs-scope : (l : List Field) (w v : Walk) → each (input model full c) w l ≡ pass v → (x : Bytes) → visible x (v .scope) ≡ (member x (Names l) || visible x (w .scope))
-  unfolding each member visible nameOf
-  inputs-scope [] w v e x = ap (λ (u : Walk). visible x (u .scope)) (sym (pass-same w v e))
-  inputs-scope (f ∷ l) w v e x =
+  inputs-since : (outer : ℕ) (l : List Field) (w v : Walk) → each (input model full c) w l ≡ pass v → outer ≤ length (Texts (w .scope)) → (x : Bytes)
+      → since outer (seek x (Texts (v .scope))) ≡ (member x (Names l) || since outer (seek x (Texts (w .scope))))
+  unfolding each member nameOf
+  inputs-since outer [] w v e h x = ap (λ (u : Walk). since outer (seek x (Texts (u .scope)))) (sym (pass-same w v e))
+  inputs-since outer (f ∷ l) w v e h x =
       let p = passed-bind (input model full c w f) (λ u. each (input model full c) u l) v e in
-      inputs-scope l (p .0) v (p .2) x
-      ∙ ap (λ (s : List Name). member x (Names l) || visible x s) (input-scope w f (p .0) (p .1))
-      ∙ or-shift (member x (Names l)) (same x (bytesOf model ValueInfo·name (message model f))) (visible x (w .scope))
+      let one = input-scope w f (p .0) (p .1) in
+      let y = bytesOf model ValueInfo·name (message model f) in
+      let further = ap (λ (s : List Name). length (Texts s)) one in
+      inputs-since outer l (p .0) v (p .2) (omega arith) x
+      ∙ ap (λ (s : List Name). member x (Names l) || since outer (seek x (Texts s))) one
+      ∙ ap (λ (b : Bool). member x (Names l) || b) (since-more x y (Texts (w .scope)) outer h)
+      ∙ or-shift (member x (Names l)) (same x y) (since outer (seek x (Texts (w .scope))))
 
 pub inputs-defaultable : (model : Bytes) (cells later : List ℕ) (p : Progress) {q : Progress} (f : Field) (main : Bool) (s : Step)
     → ((c : Context) → c .main ≡ main
     → stepSays model later s ≡ each (input model (fills (length cells)) c) (walkIn model cells p) (allOf Graph·input (message model f)))
-    → s ≡ step.Went q → (main ≡ true → p .used ≡ 0)
-    → Defaultable model main f later (q .used)
-unfolding stepSays walkIn scopeIn inputsOf visible context
-inputs-defaultable model cells later p {q} f main s answer e zero-used = record {
-  names = λ m x.
-      let passed = sym (says (stepSays model later) (answer (context model main) refl) e) in
-      let none : scopeIn model cells (p .used) ≡ [] = ap (scopeIn model cells) (zero-used m) in
-      sym (inputs-scope model (fills (length cells)) (context model main) (allOf Graph·input (message model f)) (walkIn model cells p) (walkIn model later q) passed x
-      ∙ ap (λ (s : List Name). member x (inputsOf model (message model f)) || visible x s) none
-      ∙ or-false (member x (inputsOf model (message model f))));
+    → s ≡ step.Went q
+    → Defaultable model f later (p .used) (q .used)
+unfolding stepSays walkIn bytesIn inputsOf
+inputs-defaultable model cells later p {q} f main s answer e = record {
+  names = λ x.
+      let passed = sym (says (stepSays model later) (answer (plain main) refl) e) in
+      let many = bytes-length model cells (p .used) in
+      inputs-since model (fills (length cells)) (plain main) (p .used) (allOf Graph·input (message model f)) (walkIn model cells p) (walkIn model later q) passed (omega arith) x
+      ∙ ap (λ (b : Bool). member x (inputsOf model (message model f)) || b) (since-none x (bytesIn model cells (p .used)) (p .used) (omega arith))
+      ∙ or-false (member x (inputsOf model (message model f)));
 }

@@ -1,7 +1,6 @@
 // A graph up to its nodes.
 ghost use mathlib.Core.Path.{_≡_};
 ghost use Prim.Native.Nat.{_^_, _<_, _≤_};
-ghost use mathlib.Core.Bool.{true};
 ghost use lib.ListN.{length, drop};
 ghost use Rattle.schema.specs.declared.Kind.the-variants.{Graph};
 ghost use Rattle.schema.specs.Opened.{Walked};
@@ -15,6 +14,7 @@ ghost use Rattle.messages.specs.Again.{openingNames, graphRules, opening};
 use crate::initializers::initializers;
 use crate::inputs::inputs;
 use headers::has;
+use messages::Surroundings;
 use scope::Index;
 use scope::Progress;
 use scope::Step;
@@ -53,17 +53,16 @@ pub fn opening(
     extra: &mut [u32],
     ix: Index,
     top: usize,
-    main: bool,
+    s: Surroundings,
     p: Progress,
     f: Field,
 ) -> Step
     requires { ⌜ length (now model) < 2 ^ 32 ⌝ }
     requires { ⌜ Walked (now model) Graph f ⌝ }
-    requires { ⌜ Countable p (openingNames (now model) main f) ⌝ }
+    requires { ⌜ Countable p (openingNames (now model) (s .main) f) ⌝ }
     requires { ⌜ Recalling (now model) ix (now cells) (now extra) ⌝ }
     requires { ⌜ top ≤ known (drop (ix .split) (now extra)) ⌝ }
-    requires { ⌜ (main ≡ true → p .used ≡ 0) ⌝ }
-    ensures answer { λ r. ⌜ stepSays (now (model .entry)) (now (cells .exit)) r ≡ opening (now (model .entry)) (fills (length (now (cells .entry)))) main (walkIn (now (model .entry)) (now (cells .entry)) p) f ⌝ }
+    ensures answer { λ r. ⌜ stepSays (now (model .entry)) (now (cells .exit)) r ≡ opening (now (model .entry)) (fills (length (now (cells .entry)))) s (walkIn (now (model .entry)) (now (cells .entry)) p) f ⌝ }
     ensures grown { λ r. ⌜ grows p r ⌝ }
     ensures kept { λ _. ⌜ Keeps (p .used) (now (cells .entry)) (now (cells .exit)) ⌝ }
     ensures memory { λ _. ⌜ Minded (now (model .entry)) ix top (now (cells .exit)) (now (extra .entry)) (now (extra .exit)) ⌝ }
@@ -72,9 +71,9 @@ pub fn opening(
     let Step::Went(first) = named else {
         return named;
     };
-    let step = inputs(model, cells, extra, ix, main, first, f);
+    let step = inputs(model, cells, extra, ix, s.main, first, f);
     let Step::Went(q) = step else {
         return step;
     };
-    initializers(model, cells, extra, ix, top, main, q, f)
+    initializers(model, cells, extra, ix, top, s, first.used, q, f)
 }

@@ -19,7 +19,7 @@ use Rattle.wire.proofs.Fields.{fields-done, message-ordered, keep-ordered, orde
 use Rattle.schema.specs.Numbers.{Model·graph, Graph·node, Graph·initializer, Graph·input, Graph·output, Node·input, Node·output, Node·attribute}
 use Rattle.schema.specs.Numbers.{Tensor·name, ValueInfo·name}
 use Rattle.rules.specs.Names.{Name, nameOf, nameIn, bodiesOf, inputsOf, bodiesIn}
-use Rattle.rules.specs.Runner.{Action, binds, reads, visits, unlessEmpty, initializers, nodeScript, script}
+use Rattle.rules.specs.Runner.{Action, binds, reads, visits, unlessEmpty, initializers, nodeScript, waitingIn, script}
 use Rattle.rules.specs.Runner.{Run, Ran, begin, chosen, choose, times, perform, runGraph, runTo, run}
 use Rattle.rules.specs.Count.{nodesIn, nodesTo, nodeCount, odds, attributeNames, nodeNames, graphNames, namesIn, oddTo, oddIn}
 use Rattle.rules.proofs.Scripts.{bodies-ordered}
@@ -86,7 +86,7 @@ module _ (model : Bytes) where
   unfolding script
   stays-script main f =
       let g = message model f in
-      let waiting = elim main as (λ _. List Bytes) [ true ↦ inputsOf model g | false ↦ [] ] in
+      let waiting = waitingIn model main g in
       let named : Field → Name = λ i. nameOf model ValueInfo·name (message model i) in
       all-append (Stays f) (map (λ i. binds (named i)) (allOf Graph·input g) ++ initializers model waiting (allOf Graph·initializer g)
       ++ flatMap (nodeScript model) (allOf Graph·node g)) (map (λ o. reads (named o)) (allOf Graph·output g))

@@ -23,7 +23,7 @@ use Rattle.rules.specs.Walk.{definedAt, tested, naming, define}
 use Rattle.rules.specs.Types.{declaredType}
 use Rattle.rules.specs.Node.{nodeName, nodeInput, nodeOutput, body, attribute, node}
 use Rattle.rules.specs.Graph.{input, isDefault, defaultOrNew, initializer, output, graphWith, graph}
-use Rattle.rules.specs.Header.{header, secondWalkTo, secondWalk}
+use Rattle.rules.specs.Header.{inModel, header, secondWalkTo, secondWalk}
 use Rattle.rules.specs.Verdict.{room, fills}
 use Rattle.rules.proofs.Rules.{Adds, Type·refusals, main-type-tells, nodeName-tells}
 use Rattle.varint.proofs.Tells.{Tells, Any, any-all, Among, tells-weaken}
@@ -196,9 +196,10 @@ module _ (cells : ℕ) (ample : ℕ → Bool) (wider : (visible : ℕ) → visib
       held-initializer inputs w f =
           let x = nameOf model Tensor·name (message model f) in
           held-bind most mostOf (mostOf w) (naming 22 (w .walk) x) (naming 22 (w .walk) x) _ _ (held-naming 22 (w .walk) x) (λ t.
-          held-bind most mostOf (most t) (defaultOrNew limit c inputs (w .earlier) t x) (defaultOrNew ample c inputs (w .earlier) t x) _ _
+          same-seq mostOf (most t) (refuse 43 at: _ when: _) _ _
+          (held-bind most mostOf (most t) (defaultOrNew limit c inputs (w .earlier) t x) (defaultOrNew ample c inputs (w .earlier) t x) _ _
           (held-default inputs (w .earlier) t x) (λ v.
-          same-seq mostOf (most v) (refuse 26 at: _ when: _) _ _ (held-pass mostOf (record { walk = v; earlier = x .bytes ∷ w .earlier }))))
+          same-seq mostOf (most v) (refuse 26 at: _ when: _) _ _ (held-pass mostOf (record { walk = v; earlier = x .bytes ∷ w .earlier })))))
 
       held-graph-output : (w : Walk) (f : Field) → Held most (most w) (output model c w f) (output model c w f)
       unfolding output
@@ -269,7 +270,7 @@ module _ (cells : ℕ) (ample : ℕ → Bool) (wider : (visible : ℕ) → visib
     unfolding secondWalk secondWalkTo start
     held-second list =
         skip most 0 (header model list (message model (whole model))) _ _
-        (λ imports. go (record { imports = imports; main = true }) (firstOf Model·graph (message model (whole model))))
+        (λ imports. go (inModel (message model (whole model)) imports) (firstOf Model·graph (message model (whole model))))
       where
         go : (c : Context) (o : Option Field) → Held most 0
             (elim o [ none ↦ refused 11 (message model (whole model) .place) | some g ↦ graph model limit 8 c start g ])

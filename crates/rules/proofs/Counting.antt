@@ -22,7 +22,7 @@ use Rattle.rules.specs.Walk.{Context, nestedIn, inMain, Walk, GraphJudge
 use Rattle.rules.specs.Types.{dim, declaredType}
 use Rattle.rules.specs.Node.{nodeName, nodeInput, nodeOutput, body, attribute, node}
 use Rattle.rules.specs.Graph.{input, isDefault, defaultOrNew, initializer, output, graphWith, graph}
-use Rattle.rules.specs.Header.{header, secondWalkTo, secondWalk}
+use Rattle.rules.specs.Header.{inModel, header, secondWalkTo, secondWalk}
 use Rattle.rules.specs.Count.{nodesIn, nodesTo, nodeCount, odds, valueNames, attributeNames, nodeNames, graphNames, namesIn, oddTo, oddIn}
 use Rattle.rules.proofs.Rules.{Adds, dim-tells, odds-append, odds-none, map-flat, tested-tells, naming-tells}
 use Rattle.rules.proofs.Rules.{Type·refusals, inType, main-type-tells, nodeName-tells}
@@ -151,8 +151,9 @@ module _ (model : Bytes) (full : ℕ → Bool) where
         let x = nameOf model Tensor·name (message model f) in
         let R : Along → Type 0 = GrewIn along′ w 0 (odds (x .bytes ∷ [])) in
         tells-bind (Adds (w .walk) (odds (x .bytes ∷ []))) R Any (naming 22 (w .walk) x) _ (naming-tells Any (w .walk) x 22 tt tt) (λ t h.
-        tells-bind (Grew t 0 0) R Any (defaultOrNew full c inputs (w .earlier) t x) _ (grew-default inputs (w .earlier) t x) (λ v i.
-        past R (refuse 26 at: _ when: _) _ (omega arith, omega arith)))
+        past R (refuse 43 at: _ when: _) _
+        (tells-bind (Grew t 0 0) R Any (defaultOrNew full c inputs (w .earlier) t x) _ (grew-default inputs (w .earlier) t x) (λ v i.
+        past R (refuse 26 at: _ when: _) _ (omega arith, omega arith))))
 
     -- ---- one level: `J` counts the graphs further in as `k` lists their nodes and `l` their names
 
@@ -258,13 +259,13 @@ abbrev pub Plain : Bytes → Walk → Type 0
 Plain model w = (w .nodes ≡ nodeCount model) × (w .odd ≡ oddIn model)
 
 pub second-counts : (model list : Bytes) (full : ℕ → Bool) → Tells (Plain model) Any (secondWalk model list full)
-unfolding secondWalk secondWalkTo nodesTo oddTo start
+unfolding inModel secondWalk secondWalkTo nodesTo oddTo start
 second-counts model list full =
     let R : Walk → Type 0 = λ w. (w .nodes ≡ nodesTo model (length model + 8)) × (w .odd ≡ oddTo model (length model + 8)) in
     tells-weaken R (Plain model) Any Any (secondWalk model list full)
     (λ w e. (e .0 ∙ nodes-bound model (length model + 8) (omega arith), e .1 ∙ odd-bound model (length model + 8) (omega arith))) (λ r _. tt)
     (after R (header model list (message model (whole model))) _
-    (λ imports. go (record { imports = imports; main = true }) refl (firstOf Model·graph (message model (whole model)))))
+    (λ imports. go (inModel (message model (whole model)) imports) refl (firstOf Model·graph (message model (whole model)))))
   where
     nodes : Option Field → ℕ
     nodes o = elim o [ none ↦ 0 | some g ↦ length (nodesIn model (length model + 8) g) ]

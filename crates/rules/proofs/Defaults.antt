@@ -8,7 +8,7 @@ use Rattle.varint.specs.Bytes.{Bytes, same, member}
 use Rattle.varint.proofs.Lists.{T-true, true-T}
 use Rattle.varint.proofs.Bytes.{same→eq, same-refl}
 use Rattle.rules.specs.Walk.{Context}
-use Rattle.rules.specs.Graph.{isDefault}
+use Rattle.rules.specs.Graph.{takesDefaults, isDefault}
 
 pub same-true : (x : Bytes) → same x x ≡ true
 same-true x = T-true (same x x) (same-refl x)
@@ -51,7 +51,7 @@ member-without x y (z ∷ l) = go (same x z) (same y z) refl refl (member-withou
 module _ (c : Context) (inputs : List Bytes) where
   default-more : (earlier : List Bytes) (x y : Bytes) → isDefault c inputs (x ∷ earlier) y ≡ (isDefault c inputs earlier y && not (same y x))
   unfolding isDefault member
-  default-more earlier x y = go (c .main) (member y inputs) (same y x) (member y earlier)
+  default-more earlier x y = go (takesDefaults c) (member y inputs) (same y x) (member y earlier)
     where
       go : (a b s m : Bool) → (a && b && not (s || m)) ≡ (a && b && not m && not s)
       go true true true true = refl
@@ -65,9 +65,9 @@ module _ (c : Context) (inputs : List Bytes) where
   abbrev pub Agree : (earlier waiting : List Bytes) → Type 0
   Agree earlier waiting = (y : Bytes) → member y waiting ≡ isDefault c inputs earlier y
 
-  pub agree-first : Agree [] (elim (c .main) [ true ↦ inputs | false ↦ [] ])
+  pub agree-first : Agree [] (elim (takesDefaults c) [ true ↦ inputs | false ↦ [] ])
   unfolding isDefault member
-  agree-first y = go (c .main)
+  agree-first y = go (takesDefaults c)
     where
       go : (b : Bool) → member y (elim b [ true ↦ inputs | false ↦ [] ]) ≡ (b && member y inputs && true)
       go true = sym (and-true (member y inputs))

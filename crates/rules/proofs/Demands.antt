@@ -23,7 +23,7 @@ use Rattle.schema.proofs.Bound.{walk-bound}
 use Rattle.schema.proofs.Refusals.{FirstWalk·refusals, firstWalk-tells}
 use Rattle.rules.specs.Walk.{start}
 use Rattle.rules.specs.Graph.{graph}
-use Rattle.rules.specs.Header.{header, secondWalkTo, secondWalk}
+use Rattle.rules.specs.Header.{inModel, header, secondWalkTo, secondWalk}
 use Rattle.rules.specs.Verdict.{LARGEST, Counts, counts, fills, verdict}
 use Rattle.rules.specs.Runner.{Run, begin, runGraph, runTo, run}
 use Rattle.rules.specs.Demands.{Faithful, Demand3, CountsTrue, BoundsNeverDecide}
@@ -60,15 +60,15 @@ module _ (model list : Bytes) where
   quiet-first = quiet-among Any _ FirstWalk·refusals (firstWalk model) (tt, tt, tt) (firstWalk-tells model)
 
   second-matches : (full : ℕ → Bool) → Matches InStep (secondWalk model list full) (run model [])
-  unfolding secondWalk secondWalkTo runTo start begin
+  unfolding inModel secondWalk secondWalkTo runTo start begin
   second-matches full = rw (← (run-bound model (length model + 8) [] (omega arith)))
       (quiet-matches InStep (header model list (message model (whole model))) _ _ quiet-header (λ imports. go imports (firstOf Model·graph (message model (whole model)))))
     where
       go : (imports : List Bytes) (o : Option Field) → Matches InStep
-          (elim o [ none ↦ refused 11 (message model (whole model) .place) | some g ↦ graph model full 8 (record { imports = imports; main = true }) start g ])
+          (elim o [ none ↦ refused 11 (message model (whole model) .place) | some g ↦ graph model full 8 (inModel (message model (whole model)) imports) start g ])
           (elim o [ none ↦ pass (begin []) | some g ↦ runGraph model (length model + 8) true (begin []) g ])
       go imports none = tt
-      go imports (some g) = depths-match model full 8 (length model) (record { imports = imports; main = true }) start (begin []) g (refl, refl, refl)
+      go imports (some g) = depths-match model full 8 (length model) (inModel (message model (whole model)) imports) refl start (begin []) g (refl, refl, refl)
 
   -- an acceptance counts the names that the run had bound together
   abbrev Counted : Counts → Run → Type 0

@@ -24,7 +24,7 @@ use Rattle.rules.specs.Names.{bodiesOf}
 use Rattle.rules.specs.Walk.{Context, nestedIn, Walk, start, leaving, Along}
 use Rattle.rules.specs.Node.{body, attribute, node}
 use Rattle.rules.specs.Graph.{graphWith, graph}
-use Rattle.rules.specs.Header.{header, secondWalkTo, secondWalk}
+use Rattle.rules.specs.Header.{inModel, header, secondWalkTo, secondWalk}
 
 bind-same : {E A B : Type 0} (o : Outcome E A) (f g : A → Outcome E B) → ((a : A) → f a ≡ g a) → (o >>= f) ≡ (o >>= g)
 bind-same o f g h = ap (λ k. o >>= k) (λ i a. h a i)
@@ -114,7 +114,7 @@ module _ (model : Bytes) where
   unfolding secondWalkTo secondWalk deeper isGraph
   second-bound list full depth w h =
       bind-same (header model list (message model (whole model))) _ _
-      (λ imports. go (record { imports = imports; main = true }) (firstOf Model·graph (message model (whole model))) (main-sound w))
+      (λ imports. go (inModel (message model (whole model)) imports) (firstOf Model·graph (message model (whole model))) (main-sound w))
     where
       go : (c : Context) (o : Option Field) → If (λ g. Sound model 0 g Graph) o → _≡_ {A = Judged Walk}
           (elim o [ none ↦ refused 11 (message model (whole model) .place) | some g ↦ graph model full depth c start g ])

@@ -1,18 +1,19 @@
 -- The judge and the run that enters every body once go in step, graph by graph: the names in scope are the names bound.
 use Prim.Native.Nat.{ℕ, zero, suc, _+_, max}
-use mathlib.Core.Path.{_≡_, refl, sym, ap, ap₂, _∙_}
+use mathlib.Core.Path.{_≡_, refl, sym, ap, ap₂, subst, _∙_}
 use mathlib.Core.Bool.{Bool, true, false, not, _||_, true≢false}
 use mathlib.Core.List.{List, [], _∷_}
 use mathlib.Core.Option.{Option, none, some}
 use native.Mathlib.Nat.{add-suc}
 use lib.ListN.{length}
+use lib.Dec.{eqb}
 use Rattle.varint.specs.Outcome.{Outcome, pass, fail, _>>=_, _>>_, each, Judged, Rule, refuse_at:_when:_, refuse_at:_first:_when:_}
 use Rattle.wire.specs.declared.Field.{Field}
 use Rattle.varint.specs.Lists.{isEmpty, present, contains, keep}
 use Rattle.varint.specs.Bytes.{Bytes, same, member}
-use Rattle.wire.specs.Message.{Message, allOf, numberOf, placeOf, text, bytesOf, message}
+use Rattle.wire.specs.Message.{Message, allOf, numberOf, placeOf, text, bytesOf, message, whole}
 use Rattle.varint.proofs.Tells.{Any, any-all}
-use Rattle.schema.specs.Numbers.{Graph·name, Graph·node, Graph·initializer, Graph·input, Graph·output, Node·input, Node·output}
+use Rattle.schema.specs.Numbers.{Model·ir-version, Graph·name, Graph·node, Graph·initializer, Graph·input, Graph·output, Node·input, Node·output}
 use Rattle.schema.specs.Numbers.{Node·name, Node·op-type, Node·attribute, Attribute·name, Tensor·name, Tensor·data-type, ValueInfo·name}
 use Rattle.rules.specs.Utf8.{wellFormed}
 use Rattle.rules.specs.Names.{Name, nameOf, nameIn, bodiesOf, inputsOf, bodiesIn}
@@ -20,13 +21,13 @@ use Rattle.rules.specs.Walk.{Context, nestedIn, inMain, Walk, withName, 
 use Rattle.rules.specs.Walk.{visible, definedAt, tested, naming, define}
 use Rattle.rules.specs.Types.{isElement, declaredType}
 use Rattle.rules.specs.Node.{nodeName, nodeInput, nodeOutput, body, attribute, node}
-use Rattle.rules.specs.Graph.{input, isDefault, defaultOrNew, initializer, output, graphWith, graph}
-use Rattle.rules.specs.Runner.{binds, reads, visits, unlessEmpty, initializers, nodeScript, script, reading, Run, Ran}
+use Rattle.rules.specs.Graph.{input, atIR3, takesDefaults, isDefault, defaultOrNew, initializer, output, graphWith, graph}
+use Rattle.rules.specs.Runner.{binds, reads, visits, unlessEmpty, initializers, nodeScript, waitingIn, script, reading, Run, Ran}
 use Rattle.rules.specs.Runner.{find, withBound, withRead, bind, read, unchosen, choose, forget, perform, runGraph}
 use Rattle.rules.specs.Count.{odds}
 use Rattle.rules.proofs.Rules.{Adds, Type·refusals, inType, main-type-tells, nodeName-tells}
 use Rattle.rules.proofs.Matching.{stopOf, Matches, Quiet, told-among, quiet-rule, bind-matches, after-matches, then-matches}
-use Rattle.rules.proofs.Matching.{told-matches, told-passes, quiet-then, each-matches, bind-assoc, bind-pass, each-append, each-map, each-flat}
+use Rattle.rules.proofs.Matching.{told-matches, told-passes, quiet-then, quiet-seq, each-matches, bind-assoc, bind-pass, each-append, each-map, each-flat}
 use Rattle.rules.proofs.Visits.{visit-once}
 use Rattle.rules.proofs.Defaults.{Agree, agree-first, agree-default, agree-new}
 
@@ -36,6 +37,10 @@ InStep w r = (w .scope ≡ r .bound) × (r .choices ≡ []) × (w .most ≡ r .m
 
 abbrev InStepAlong : Along → Run → Type 0
 InStepAlong w r = InStep (w .walk) r
+
+-- the IR version that the judge was told is the one that the runner finds
+abbrev pub Versioned : Bytes → Context → Type 0
+Versioned model c = c .ir-version ≡ numberOf Model·ir-version (message model (whole model))
 
 -- odd names are no concern of the runner
 in-step-adds : (w v : Walk) (k : ℕ) (r : Run) → InStep w r → Adds w k v → InStep v r
@@ -129,7 +134,7 @@ module _ (model : Bytes) where
 
 -- ---- one level: `J` judges and `K` runs the graphs further in
 
-module _ (model : Bytes) (full : ℕ → Bool) (c : Context) (J : Walk → Field → Judged Walk) (K : Run → Field → Ran)
+module _ (model : Bytes) (full : ℕ → Bool) (c : Context) (version : Versioned model c) (J : Walk → Field → Judged Walk) (K : Run → Field → Ran)
     (nest : (w : Walk) (r : Run) (f : Field) → InStep w r → Matches InStep (J w f) (K r f)) where
   input-matches : (w : Walk) (r : Run) (f : Field) → InStep w r → Matches InStep (input model full c w f) (perform K r (binds (nameOf model ValueInfo·name (message model f))))
   unfolding input perform withTested
@@ -224,12 +229,8 @@ module _ (model : Bytes) (full : ℕ → Bool) (c : Context) (J : Walk → Field
     type-test f = refuse 26 at: placeOf Tensor·data-type (message model f) when: not (isElement (numberOf Tensor·data-type (message model f)))
 
     last-matches : (v : Along) (f : Field) (k : Along → Judged Along) (o : Ran) → Matches InStepAlong (k v) o → Matches InStepAlong (type-test f >> pass v >>= k) o
-    unfolding type-test _>>=_ _>>_
-    last-matches v f k o m = go (type-test f) (quiet-rule 26 _ _ refl)
-      where
-        go : (rule : Rule) → Quiet rule → Matches InStepAlong (rule >> pass v >>= k) o
-        go (pass u) q = m
-        go (fail r) q = rw q tt
+    unfolding type-test _>>=_
+    last-matches v f k o m = quiet-seq InStepAlong (type-test f) (pass v) k o (quiet-rule 26 _ _ refl) m
 
     initializers-match : (fs : List Field) (w : Along) (waiting : List Bytes) (r : Run)
         → InStepAlong w r → Agree c inputs (w .earlier) waiting
@@ -239,7 +240,8 @@ module _ (model : Bytes) (full : ℕ → Bool) (c : Context) (J : Walk → Field
     initializers-match (f ∷ more) w waiting r h a =
         rw (bind-assoc (naming 22 (w .walk) x))
         (naming-matches InStepAlong (w .walk) x _ _ 22 (λ p. refl)
-        (go (isDefault c inputs (w .earlier) (x .bytes)) (member (x .bytes) waiting) refl (a (x .bytes)) (λ v waiting s h a. initializers-match more v waiting s h a)))
+        (quiet-seq InStepAlong (refuse 43 at: _ when: _) _ _ _ (quiet-rule 43 _ _ refl)
+        (go (isDefault c inputs (w .earlier) (x .bytes)) (member (x .bytes) waiting) refl (a (x .bytes)) (λ v waiting s h a. initializers-match more v waiting s h a))))
       where
         x : Name
         x = nameOf model Tensor·name (message model f)
@@ -268,11 +270,17 @@ module _ (model : Bytes) (full : ℕ → Bool) (c : Context) (J : Walk → Field
 
   graph-script : (r : Run) (f : Field) → each (perform K) r (script model (c .main) f) ≡ (
       each (λ s i. perform K s (binds (nameOf model ValueInfo·name (message model i)))) r (allOf Graph·input (message model f)) >>= λ s.
-      each (perform K) s (initializers model (elim (c .main) [ true ↦ inputsOf model (message model f) | false ↦ [] ]) (allOf Graph·initializer (message model f))) >>= λ t.
+      each (perform K) s (initializers model (waitingIn model (c .main) (message model f)) (allOf Graph·initializer (message model f))) >>= λ t.
       each (λ s n. each (perform K) s (nodeScript model n)) t (allOf Graph·node (message model f)) >>= λ u.
       each (λ s o. perform K s (reads (nameOf model ValueInfo·name (message model o)))) u (allOf Graph·output (message model f)))
   unfolding script
   graph-script r f = simp (each-append, each-flat, each-map, bind-assoc)
+
+  waiting-agree : (g : Message) → Agree c (inputsOf model g) [] (waitingIn model (c .main) g)
+  unfolding waitingIn takesDefaults atIR3
+  waiting-agree g =
+      subst (λ (v : ℕ). Agree c (inputsOf model g) [] (elim (c .main || eqb v 3) [ true ↦ inputsOf model g | false ↦ [] ])) version
+      (agree-first c (inputsOf model g))
 
   graph-matches : (w : Walk) (r : Run) (f : Field) → InStep w r → Matches InStep (graphWith model full c J w f) (each (perform K) r (script model (c .main) f))
   unfolding graphWith withTested along
@@ -285,7 +293,7 @@ module _ (model : Bytes) (full : ℕ → Bool) (c : Context) (J : Walk → Field
       (each-matches InStep (input model full c) (λ s i. perform K s (binds (nameOf model ValueInfo·name (message model i))))
       (λ v s i k. input-matches v s i k) (allOf Graph·input g) t r h)
       (λ v s k. bind-matches InStepAlong InStep (each (initializer model full c (inputsOf model g)) (along v) (allOf Graph·initializer g)) _ _ _
-      (initializers-match (inputsOf model g) (allOf Graph·initializer g) (along v) _ s k (agree-first c (inputsOf model g)))
+      (initializers-match (inputsOf model g) (allOf Graph·initializer g) (along v) _ s k (waiting-agree g))
       (λ i t k. bind-matches InStepAlong InStep (each (node model full c J) (along (i .walk)) (allOf Graph·node g)) _ _ _
       (each-matches InStepAlong (node model full c J) (λ s n. each (perform K) s (nodeScript model n)) (λ v s n k. node-matches v s n k) (allOf Graph·node g) (along (i .walk)) t k)
       (λ n u k. each-matches InStep (output model c) (λ s o. perform K s (reads (nameOf model ValueInfo·name (message model o))))
@@ -293,11 +301,11 @@ module _ (model : Bytes) (full : ℕ → Bool) (c : Context) (J : Walk → Field
 
 -- ---- the depths: the runner has as many as the judge, or more
 
-pub depths-match : (model : Bytes) (full : ℕ → Bool) (left more : ℕ) (c : Context) (w : Walk) (r : Run) (f : Field)
+pub depths-match : (model : Bytes) (full : ℕ → Bool) (left more : ℕ) (c : Context) → Versioned model c → (w : Walk) (r : Run) (f : Field)
     → InStep w r
     → Matches InStep (graph model full left c w f) (runGraph model (more + left) (c .main) r f)
 unfolding graph runGraph nestedIn
-depths-match model full zero more c w r f h = tt
-depths-match model full (suc left) more c w r f h = rw add-suc
-    (graph-matches model full c (graph model full left (nestedIn c)) (runGraph model (more + left) false)
-    (λ w r f h. depths-match model full left more (nestedIn c) w r f h) w r f h)
+depths-match model full zero more c e w r f h = tt
+depths-match model full (suc left) more c e w r f h = rw add-suc
+    (graph-matches model full c e (graph model full left (nestedIn c)) (runGraph model (more + left) false)
+    (λ w r f h. depths-match model full left more (nestedIn c) e w r f h) w r f h)

@@ -112,6 +112,13 @@ module _ {C D : Type 0} (S : C → D → Type 0) where
   quiet-then (pass a) k o q m = m
   quiet-then (fail r) k o q m = rw q tt
 
+module _ {A C D : Type 0} (S : C → D → Type 0) where
+  -- a rule of the judge alone, in front of a step
+  pub quiet-seq : (j : Rule) (k : Judged A) (f : A → Judged C) (o : Outcome Stop D) → Quiet j → Matches S (k >>= f) o → Matches S (j >> k >>= f) o
+  unfolding _>>=_ _>>_
+  quiet-seq (pass u) k f o q m = m
+  quiet-seq (fail r) k f o q m = rw q tt
+
 -- ---- along a list
 
 module _ {A S T : Type 0} (R : S → T → Type 0) (step : S → A → Judged S) (move : T → A → Outcome Stop T)

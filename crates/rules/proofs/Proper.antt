@@ -28,7 +28,7 @@ use Rattle.rules.specs.Walk.{Along, along, definedAt, tested, naming, de
 use Rattle.rules.specs.Types.{declaredType}
 use Rattle.rules.specs.Node.{nodeName, nodeInput, nodeOutput, body, attribute, node}
 use Rattle.rules.specs.Graph.{input, isDefault, defaultOrNew, initializer, output, graphWith, graph}
-use Rattle.rules.specs.Header.{header, secondWalkTo, secondWalk}
+use Rattle.rules.specs.Header.{inModel, header, secondWalkTo, secondWalk}
 use Rattle.rules.specs.Verdict.{fills, verdict}
 use Rattle.rules.specs.Refusals.{refusals}
 use Rattle.rules.specs.Demands.{RefusedProperly}
@@ -138,9 +138,10 @@ module _ (model : Bytes) where
         let m = message model f in
         let x = nameOf model Tensor·name m in
         tells-bind Scoped ScopedAlong Proper _ _ (proper-naming 22 Tensor·name (w .walk) m tt s (placed f g)) (λ t h.
+        tells-rule ScopedAlong Proper 43 _ _ _ (λ b. (tt, place Tensor·name m (placed f g), inl refl)) (λ b.
         tells-bind Scoped ScopedAlong Proper _ _
         (tells-if Scoped Proper (isDefault c inputs (w .earlier) (x .bytes)) _ _ (λ b. h) (λ b. proper-define t x h (place Tensor·name m (placed f g)))) (λ v i.
-        tells-rule ScopedAlong Proper 26 _ _ _ (λ b. (tt, place Tensor·data-type m (placed f g), inl refl)) (λ b. i)))
+        tells-rule ScopedAlong Proper 26 _ _ _ (λ b. (tt, place Tensor·data-type m (placed f g), inl refl)) (λ b. i))))
 
     proper-node-input : (w : Walk) (f : Field) → Scoped w → Good f → Tells Scoped Proper (nodeInput model w f)
     unfolding nodeInput nameIn contains
@@ -225,7 +226,7 @@ module _ (model : Bytes) where
         tells-bind Any Scoped Proper _ _ (proper-among Any Header·refusals (header model list m) tt
         (header-tells model Good Place good-at good-in list m all)) (λ imports _.
         tells-option Scoped Proper Good (firstOf Model·graph m) _ _ (good-first model Good Place good-at good-in Model·graph m all) (tt, inl refl, inl refl)
-        (λ g h. proper-depths 8 (record { imports = imports; main = true }) start g tt h))
+        (λ g h. proper-depths 8 (inModel (message model (whole model)) imports) start g tt h))
       where
         all : Placed (message model (whole model))
         all = (inl refl, ordered-all 0 (length model) (message model (whole model) .fields) (message-ordered model (whole model)))

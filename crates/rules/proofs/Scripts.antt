@@ -17,7 +17,7 @@ use Rattle.varint.proofs.Tells.{Any, any-all}
 use Rattle.wire.proofs.Fields.{message-ordered, keep-ordered, all-of-ordered, ordered-flat}
 use Rattle.schema.specs.Numbers.{Graph·node, Graph·initializer, Graph·input, Graph·output, Node·input, Node·output, Node·attribute, Tensor·name, ValueInfo·name}
 use Rattle.rules.specs.Names.{Name, nameOf, nameIn, bodiesOf, inputsOf, bodiesIn}
-use Rattle.rules.specs.Runner.{Action, binds, reads, visits, unlessEmpty, initializers, nodeScript, script}
+use Rattle.rules.specs.Runner.{Action, binds, reads, visits, unlessEmpty, initializers, nodeScript, waitingIn, script}
 
 -- ---- places
 
@@ -248,7 +248,7 @@ module _ (model : Bytes) where
   unfolding script
   tidy-script main f =
       let g = message model f in
-      let waiting = elim main as (λ _. List Bytes) [ true ↦ inputsOf model g | false ↦ [] ] in
+      let waiting = waitingIn model main g in
       let named : Field → Name = λ i. nameOf model ValueInfo·name (message model i) in
       tidy-append (Spans (allOf Graph·node g)) (Spans (allOf Graph·output g)) (Within f)
       (map (λ i. binds (named i)) (allOf Graph·input g) ++ initializers model waiting (allOf Graph·initializer g)

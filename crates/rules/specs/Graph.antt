@@ -1,7 +1,8 @@
 -- The second walk of document 01 over a graph.
 use Prim.Native.Nat.{ℕ, zero, suc}
-use mathlib.Core.Bool.{Bool, true, false, not, _&&_}
+use mathlib.Core.Bool.{Bool, true, false, not, _&&_, _||_}
 use mathlib.Core.List.{List, _∷_}
+use lib.Dec.{eqb}
 use Rattle.varint.specs.Outcome.{pass, _>>=_, _>>_, each, Judged, refused, refuse_at:_when:_}
 use Rattle.wire.specs.declared.Field.{Field}
 use Rattle.varint.specs.Lists.{present}
@@ -13,9 +14,20 @@ use Rattle.rules.specs.Walk.{Context, nestedIn, inMain, Walk, GraphJudge
 use Rattle.rules.specs.Types.{isElement, declaredType, Types·computes}
 use Rattle.rules.specs.Node.{node, Node·computes}
 
--- "In the main graph it may bear the name of an input, once: that is a default, and adds no name."
+unfoldable pub atIR3 : Context → Bool
+atIR3 c = eqb (c .ir-version) 3
+
+-- "At IR 3 each initializer must bear the name of an input of its own graph, otherwise 43"
+unfoldable pub lacksInput : Context → (inputs : List Bytes) → Bytes → Bool
+lacksInput c inputs x = atIR3 c && not (member x inputs)
+
+-- "In the main graph"; at IR 3 "a nested graph" too.
+unfoldable pub takesDefaults : Context → Bool
+takesDefaults c = c .main || atIR3 c
+
+-- "it may bear the name of an input, once: that is a default, and adds no name"
 unfoldable pub isDefault : Context → (inputs earlier : List Bytes) → Bytes → Bool
-isDefault c inputs earlier x = c .main && member x inputs && not (member x earlier)
+isDefault c inputs earlier x = takesDefaults c && member x inputs && not (member x earlier)
 
 unfoldable pub defaultOrNew : (full : ℕ → Bool) → Context → (inputs earlier : List Bytes) → Walk → Name → Judged Walk
 defaultOrNew full c inputs earlier w x = elim (isDefault c inputs earlier (x .bytes)) [ true ↦ pass w | false ↦ define full w x ]
@@ -29,12 +41,13 @@ input model full c w f = do
   v ← define full t x
   inMain c (declaredType model m) v
 
--- "Initializer: 22, 21, 23, 40, 26."
+-- "Initializer: 22, 21, 23, 40, 26."; "43 (after 21, before 23)"
 unfoldable pub initializer : (model : Bytes) → (full : ℕ → Bool) → Context → (inputs : List Bytes) → Along → Field → Judged Along
 initializer model full c inputs w f = do
   let m = message model f
   let x = nameOf model Tensor·name m
   t ← naming 22 (w .walk) x
+  refuse 43 at: x .place when: lacksInput c inputs (x .bytes)
   v ← defaultOrNew full c inputs (w .earlier) t x
   refuse 26 at: placeOf Tensor·data-type m when: not (isElement (numberOf Tensor·data-type m))
   pass (record { walk = v; earlier = x .bytes ∷ w .earlier })
@@ -68,5 +81,5 @@ graph model full (suc left) c w f = graphWith model full c (λ v g. graph model 
 
 -- This file and what it is built on, for whoever computes with it.
 unfoldable pub Graph·computes : Unit {0}
-unfolding Types·computes Node·computes input isDefault defaultOrNew initializer output graphWith graph
+unfolding Types·computes Node·computes input atIR3 lacksInput takesDefaults isDefault defaultOrNew initializer output graphWith graph
 Graph·computes = tt

@@ -10,8 +10,12 @@ use Rattle.varint.specs.Bytes.{Bytes, member}
 use Rattle.wire.specs.Message.{Message, allOf, firstOf, numberOf, placeOf, bytesOf, message, whole}
 use Rattle.operators.specs.Operators.{domain, allows}
 use Rattle.schema.specs.Numbers.{Model·ir-version, Model·graph, Model·opset-import, Model·functions, OperatorSetId·domain, OperatorSetId·version}
-use Rattle.rules.specs.Walk.{Walk, start}
+use Rattle.rules.specs.Walk.{Context, Walk, start}
 use Rattle.rules.specs.Graph.{graph, Graph·computes}
+
+-- What surrounds the main graph of a model.
+unfoldable pub inModel : Message → (imports : List Bytes) → Context
+inModel m imports = record { imports = imports; main = true; ir-version = numberOf Model·ir-version m }
 
 module _ (model list : Bytes) where
   -- "each import in order (13 then 14)": the domains imported so far, and with this one.
@@ -23,10 +27,10 @@ module _ (model list : Bytes) where
     refuse 14 at: m .place when: not (allows list d (numberOf OperatorSetId·version m))
     pass (d ∷ imports)
 
-  -- "Header order: 10, 11, 12, each import in order (13 then 14), 15."
+  -- "Header order: 10, 11, 12, each import in order (13 then 14), 15." "Refusal 10 now means outside 3..11."
   unfoldable pub header : Message → Judged (List Bytes)
   header m = do
-    refuse 10 at: placeOf Model·ir-version m when: not (within 4 10 (numberOf Model·ir-version m))
+    refuse 10 at: placeOf Model·ir-version m when: not (within 3 11 (numberOf Model·ir-version m))
     refuse 11 at: m .place when: not (present (firstOf Model·graph m))
     refuse 12 at: m .place when: isEmpty (allOf Model·opset-import m)
     imports ← each opsetImport [] (allOf Model·opset-import m)
@@ -40,7 +44,7 @@ module _ (model list : Bytes) where
     imports ← header m
     elim (firstOf Model·graph m) [
       | none ↦ refused 11 (m .place)
-      | some g ↦ graph model full depth (record { imports = imports; main = true }) start g
+      | some g ↦ graph model full depth (inModel m imports) start g
     ]
 
   -- "to depth 8, the main graph being depth 1"
@@ -49,5 +53,5 @@ module _ (model list : Bytes) where
 
 -- This file and what it is built on, for whoever computes with it.
 unfoldable pub Header·computes : Unit {0}
-unfolding Graph·computes opsetImport header secondWalkTo secondWalk
+unfolding Graph·computes inModel opsetImport header secondWalkTo secondWalk
 Header·computes = tt

@@ -12,7 +12,7 @@ use Rattle.schema.specs.Numbers.{Model·ir-version, Model·graph, Model·opset-
 use Rattle.schema.specs.Numbers.{Graph·name, Graph·initializer, Graph·input, Graph·output, Graph·sparse-initializer, Node·input, Node·output, Node·name}
 use Rattle.schema.specs.Numbers.{Node·op-type, Node·attribute, Node·domain, Attribute·name, Tensor·name, ValueInfo·name, ValueInfo·type}
 use Rattle.schema.specs.Numbers.{TypeProto·tensor, TensorType·elem-type, TensorType·shape, Shape·dim, Dimension·dim-param}
-use Rattle.rules.specs.Models.{held, counted, value, tensor, body, node, graph, model, Models·computes}
+use Rattle.rules.specs.Models.{held, counted, value, tensor, body, node, graph, modelOf, model, Models·computes}
 use Rattle.rules.specs.Verdict.{Counts, verdict, Verdict·computes}
 
 -- ---- parts that are not as `Models` makes them
@@ -59,6 +59,10 @@ attribute x fields = held Node·attribute (held Attribute·name x ++ fields)
 attributed : Bytes → Bytes
 attributed fields = noded (op ++ attribute (ascii "a") fields ++ out)
 
+-- A model of an IR version with an input `x` and a node that holds this graph.
+bodied : (ir-version : ℕ) → Bytes → Bytes
+bodied v g = modelOf v (graph "x" "" (node "" (body "do" g ∷ []) "y" ∷ []) "y")
+
 accepted : (nodes names odd : ℕ) → Judged Counts
 accepted nodes names odd = pass (record { nodes = nodes; names = names; odd = odd })
 
@@ -66,10 +70,12 @@ accepted nodes names odd = pass (record { nodes = nodes; names = names; odd = od
 judged : List (Bytes × ℕ × Judged Counts)
 judged =
     -- header
-    (counted Model·ir-version 3 ++ import "" 13 ++ held Model·graph named, 0, refused 10 0)
-    ∷ (import "" 13 ++ held Model·graph named ++ counted Model·ir-version 11, 0, refused 10 11)
-    ∷ (counted Model·ir-version 10 ++ import "" 13, 0, refused 11 0)
-    ∷ (counted Model·ir-version 4 ++ held Model·graph named, 0, refused 12 0)
+    (counted Model·ir-version 2 ++ import "" 13 ++ held Model·graph named, 0, refused 10 0)
+    ∷ (import "" 13 ++ held Model·graph named ++ counted Model·ir-version 12, 0, refused 10 11)
+    ∷ (counted Model·ir-version 11 ++ import "" 13, 0, refused 11 0)
+    ∷ (counted Model·ir-version 3 ++ held Model·graph named, 0, refused 12 0)
+    ∷ (modelOf 3 named, 0, accepted 0 0 0)
+    ∷ (modelOf 11 named, 0, accepted 0 0 0)
     ∷ (counted Model·ir-version 8 ++ import "" 13 ++ import "ai.onnx" 13 ++ held Model·graph named, 0, refused 13 8)
     ∷ (counted Model·ir-version 8 ++ import "" 22 ++ import "" 13 ++ held Model·graph named, 0, refused 14 2)
     ∷ (counted Model·ir-version 8 ++ import "ai.onnx.ml" 13 ++ held Model·graph named, 0, refused 14 2)
@@ -95,6 +101,20 @@ judged =
     ∷ (model (graph "x" "w" [] "x"), 3, refused 40 28)
     ∷ (model (graph "x" "x" [] "x"), 2, accepted 0 1 0)
     ∷ (model (graph "x" "x x" [] "x"), 2, refusedWith 23 35 13)
+    -- initializers at IR 3, beside IR 4: of a graph's own inputs, in a nested graph too, and when the cells are full
+    ∷ (modelOf 3 (graph "x" "w" [] "x"), 4, refused 43 28)
+    ∷ (modelOf 4 (graph "x" "w" [] "x"), 4, accepted 0 2 0)
+    ∷ (modelOf 3 (graph "x" "x" [] "x"), 2, accepted 0 1 0)
+    ∷ (modelOf 3 (graph "x" "x x" [] "x"), 2, refusedWith 23 35 13)
+    ∷ (bodied 3 (graph "i" "i" [] "i"), 4, accepted 1 2 0)
+    ∷ (bodied 4 (graph "i" "i" [] "i"), 4, refusedWith 23 57 42)
+    ∷ (bodied 3 (graph "i" "i i" [] "i"), 4, refusedWith 23 64 42)
+    ∷ (bodied 3 (graph "i" "x" [] "i"), 4, refused 43 57)
+    ∷ (bodied 4 (graph "i" "x" [] "i"), 4, refusedWith 23 57 13)
+    ∷ (bodied 11 (graph "i" "i" [] "i"), 4, refusedWith 23 57 42)
+    -- and with ir_version after the graph
+    ∷ (import "" 13 ++ held Model·graph (graph "" "w" [] "w") ++ counted Model·ir-version 3, 2, refused 43 15)
+    ∷ (import "" 13 ++ held Model·graph (graph "" "w" [] "w") ++ counted Model·ir-version 4, 2, accepted 0 1 0)
     -- nodes
     ∷ (noded out, 2, refused 27 11)
     ∷ (noded (held Node·op-type [] ++ out), 2, refused 27 13)
@@ -182,6 +202,9 @@ judged =
     ∷ (model (named ++ input "x" (tensorType (counted TensorType·elem-type 1)) ++ input "y" (dim minusOne)), 4, refused 37 18)
     ∷ (model (named ++ input "x" (dim minusOne) ++ input "y" (tensorType (counted TensorType·elem-type 1))), 4, refused 38 26)
     ∷ (model (named ++ held Graph·initializer (held Tensor·name (ascii "w"))), 0, refused 40 13)
+    ∷ (modelOf 3 (named ++ held Graph·initializer []), 0, refused 22 11)
+    ∷ (modelOf 3 (named ++ held Graph·initializer (tensor (hex "FF"))), 0, refused 21 15)
+    ∷ (modelOf 3 (named ++ held Graph·initializer (held Tensor·name (ascii "w"))), 0, refused 43 13)
     ∷ (model (named ++ held Graph·output (held ValueInfo·name (ascii "q"))), 0, refused 35 13)
     ∷ (noded (held Node·domain (ascii "d") ++ out), 2, refused 27 11)
     ∷ (noded (held Node·domain (ascii "d") ++ op ++ held Node·name (hex "FF") ++ out), 2, refused 28 13)
@@ -198,5 +221,5 @@ judged =
     ∷ []
 
 judged-hold : map (λ s. verdict (s .0) L (s .1)) judged ≡ map (λ s. s .2) judged
-unfolding judged named import input typed tensorType shaped minusOne dim noded op out attribute attributed accepted L Models·computes Verdict·computes
+unfolding judged named import input typed tensorType shaped minusOne dim noded op out attribute attributed bodied accepted L Models·computes Verdict·computes
 judged-hold = refl

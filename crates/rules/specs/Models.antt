@@ -52,10 +52,14 @@ graph inputs initializers nodes outputs =
     ++ flatMap (λ n. n) nodes
     ++ flatMap (λ x. held Graph·output (value x)) (words outputs)
 
+-- A model of an IR version with one import, and one of IR version 8.
+unfoldable pub modelOf : (ir-version : ℕ) → Bytes → Bytes
+modelOf v g = counted Model·ir-version v ++ held Model·opset-import (counted OperatorSetId·version 13) ++ held Model·graph g
+
 unfoldable pub model : Bytes → Bytes
-model g = counted Model·ir-version 8 ++ held Model·opset-import (counted OperatorSetId·version 13) ++ held Model·graph g
+model g = modelOf 8 g
 
 -- This file and what it is built on, for whoever computes with it.
 unfoldable pub Models·computes : Unit {0}
-unfolding Notation·computes size held counted value tensor body node graph model flatMap
+unfolding Notation·computes size held counted value tensor body node graph modelOf model flatMap
 Models·computes = tt

@@ -1,4 +1,4 @@
--- Document 01, "Refusal numbers": the table, in its order; 9 is of document 02, Req 07, and stands where it is tested.
+-- Document 01, "Refusal numbers": the table, in its order; 9 and 43 are of document 02, Req 07 and Req 06, and stand where they are tested.
 use Prim.Native.Nat.{ℕ}
 use mathlib.Core.List.{List, [], _∷_}
 
@@ -13,7 +13,7 @@ refusals =
     ∷ 4  -- wrong wire type for a named field
     ∷ 5  -- a single field repeated
     ∷ 6  -- a graph at depth 9
-    ∷ 10  -- ir_version outside 4..10
+    ∷ 10  -- ir_version outside 3..11
     ∷ 11  -- no graph
     ∷ 12  -- no opset_import
     ∷ 13  -- domain imported twice
@@ -23,6 +23,7 @@ refusals =
     ∷ 20  -- graph name empty
     ∷ 21  -- not well-formed UTF-8, or an empty dim_param
     ∷ 22  -- name empty
+    ∷ 43  -- at IR 3, an initializer bears the name of no input of its graph
     ∷ 23  -- name already visible
     ∷ 24  -- main input or output has no tensor type
     ∷ 25  -- elem_type outside 1..23

@@ -2,16 +2,17 @@
 -- graph is first taken for its script, the list of what it does, and a small machine performs the script. Plain runner, choice,
 -- body, visit and defining place are document 01's terms; script and action are ours.
 use Prim.Native.Nat.{ℕ, zero, suc, _+_, max}
-use mathlib.Core.Bool.{Bool, true, false, not}
+use mathlib.Core.Bool.{Bool, true, false, not, _||_}
 use mathlib.Core.List.{List, [], _∷_, _++_, map, flatMap}
 use mathlib.Core.Option.{Option, none, some}
 use lib.ListN.{length}
+use lib.Dec.{eqb}
 use Rattle.varint.specs.Outcome.{Outcome, pass, fail, _>>=_, each}
 use Rattle.wire.specs.declared.Field.{Field}
 use Rattle.varint.specs.Lists.{keep}
 use Rattle.varint.specs.Bytes.{Bytes, same, member}
-use Rattle.wire.specs.Message.{allOf, firstOf, message, whole}
-use Rattle.schema.specs.Numbers.{Model·graph, Graph·node, Graph·initializer, Graph·input, Graph·output, Node·input, Node·output, Tensor·name, ValueInfo·name}
+use Rattle.wire.specs.Message.{Message, allOf, firstOf, numberOf, message, whole}
+use Rattle.schema.specs.Numbers.{Model·ir-version, Model·graph, Graph·node, Graph·initializer, Graph·input, Graph·output, Node·input, Node·output, Tensor·name, ValueInfo·name}
 use Rattle.rules.specs.Names.{Name, nameOf, nameIn, inputsOf, bodiesIn, Names·computes}
 
 -- ---- the script of a graph
@@ -45,12 +46,16 @@ module _ (model : Bytes) where
       ++ map visits (bodiesIn model f)
       ++ flatMap (λ o. unlessEmpty binds (nameIn model o)) (allOf Node·output m)
 
+  -- Of which inputs: "in the main graph" of all, and of "a nested default .. at IR 3 only".
+  unfoldable pub waitingIn : (main : Bool) → (graph : Message) → List Bytes
+  waitingIn main g = elim (main || eqb (numberOf Model·ir-version (message model (whole model))) 3) [ true ↦ inputsOf model g | false ↦ [] ]
+
   -- "A graph binds inputs, then initializers (in the main graph, ..); then each node ..; then the graph reads its outputs."
   unfoldable pub script : (main : Bool) → Field → List Action
   script main f =
       let g = message model f in
       map (λ i. binds (nameOf model ValueInfo·name (message model i))) (allOf Graph·input g)
-      ++ initializers (elim main [ true ↦ inputsOf model g | false ↦ [] ]) (allOf Graph·initializer g)
+      ++ initializers (waitingIn main g) (allOf Graph·initializer g)
       ++ flatMap nodeScript (allOf Graph·node g)
       ++ map (λ o. reads (nameOf model ValueInfo·name (message model o))) (allOf Graph·output g)
 
@@ -146,5 +151,5 @@ module _ (model : Bytes) where
 
 -- This file and what it is built on, for whoever computes with it.
 unfoldable pub Runner·computes : Unit {0}
-unfolding Names·computes unlessEmpty initializers nodeScript script begin find withBound withRead bind read chosen unchosen choose forget times perform runGraph runTo run
+unfolding Names·computes unlessEmpty initializers nodeScript waitingIn script begin find withBound withRead bind read chosen unchosen choose forget times perform runGraph runTo run
 Runner·computes = tt

@@ -1,10 +1,12 @@
 -- Runs of the runner, evaluated.
 use Prim.Native.Nat.{ℕ}
+use Prim.Native.String.{String}
 use mathlib.Core.Path.{_≡_, refl}
-use mathlib.Core.List.{List, [], _∷_, map, reverse}
+use mathlib.Core.List.{List, [], _∷_, _++_, map, reverse}
 use Rattle.varint.specs.Outcome.{Outcome, pass, fail}
 use Rattle.varint.specs.Bytes.{Bytes}
-use Rattle.rules.specs.Models.{body, node, graph, model, Models·computes}
+use Rattle.schema.specs.Numbers.{Model·ir-version, Model·graph}
+use Rattle.rules.specs.Models.{held, counted, body, node, graph, modelOf, model, Models·computes}
 use Rattle.rules.specs.Runner.{Stop, binding, reading, Ran, run, Runner·computes}
 
 -- The reads of a run in the order in which they were made, each as the place of the field and the place that it found.
@@ -42,35 +44,44 @@ shadow = graph "x" "" (node "" (body "do" (graph "" "t" [] "t") ∷ []) "t" ∷ 
 self-reader : Bytes
 self-reader = graph "x" "" (node "" (body "do" (graph "" "" (node "y" [] "t" ∷ []) "t") ∷ []) "y" ∷ []) "y"
 
--- A graph, choices, and what is told of the run.
+-- A body has an input `i`, and these initializers.
+defaulting : String → Bytes
+defaulting initializers = graph "x" "" (node "" (body "do" (graph "i" initializers [] "i") ∷ []) "y" ∷ []) "y"
+
+-- A model, choices, and what is told of the run.
 runs : List (Bytes × List ℕ × Outcome Stop (List (ℕ × ℕ)))
 runs =
-    (straight, [], pass ((26, 13) ∷ (37, 13) ∷ (40, 32) ∷ (51, 46) ∷ []))
-    ∷ (two-bodies, [], pass ((26, 13) ∷ (47, 13) ∷ (58, 53) ∷ (94, 89) ∷ (113, 108) ∷ []))
-    ∷ (two-bodies, 0 ∷ 1 ∷ [], pass ((26, 13) ∷ (94, 89) ∷ (113, 108) ∷ []))
-    ∷ (one-body, [], pass ((42, 13) ∷ (53, 48) ∷ (72, 67) ∷ []))
-    ∷ (one-body, 0 ∷ [], pass ((72, 67) ∷ []))
-    ∷ (one-body, 3 ∷ [], pass ((42, 13) ∷ (53, 48) ∷ (42, 13) ∷ (53, 48) ∷ (42, 13) ∷ (53, 48) ∷ (72, 67) ∷ []))
-    ∷ (nested, [], pass ((42, 13) ∷ (69, 48) ∷ (80, 75) ∷ (99, 94) ∷ (118, 113) ∷ []))
+    (model straight, [], pass ((26, 13) ∷ (37, 13) ∷ (40, 32) ∷ (51, 46) ∷ []))
+    ∷ (model two-bodies, [], pass ((26, 13) ∷ (47, 13) ∷ (58, 53) ∷ (94, 89) ∷ (113, 108) ∷ []))
+    ∷ (model two-bodies, 0 ∷ 1 ∷ [], pass ((26, 13) ∷ (94, 89) ∷ (113, 108) ∷ []))
+    ∷ (model one-body, [], pass ((42, 13) ∷ (53, 48) ∷ (72, 67) ∷ []))
+    ∷ (model one-body, 0 ∷ [], pass ((72, 67) ∷ []))
+    ∷ (model one-body, 3 ∷ [], pass ((42, 13) ∷ (53, 48) ∷ (42, 13) ∷ (53, 48) ∷ (42, 13) ∷ (53, 48) ∷ (72, 67) ∷ []))
+    ∷ (model nested, [], pass ((42, 13) ∷ (69, 48) ∷ (80, 75) ∷ (99, 94) ∷ (118, 113) ∷ []))
     -- the outer body twice, and in it the inner one not at all, then three times
-    ∷ (nested, 2 ∷ 0 ∷ 3 ∷ [], pass ((42, 13) ∷ (99, 94) ∷ (42, 13) ∷ (69, 48) ∷ (80, 75) ∷ (69, 48) ∷ (80, 75) ∷ (69, 48) ∷ (80, 75) ∷ (99, 94) ∷ (118, 113) ∷ []))
-    ∷ (shadow, 2 ∷ [], pass ((49, 44) ∷ (49, 44) ∷ (68, 63) ∷ (79, 74) ∷ []))
-    ∷ (self-reader, [], fail (reading 42))
-    ∷ (self-reader, 0 ∷ [], pass ((72, 67) ∷ []))
+    ∷ (model nested, 2 ∷ 0 ∷ 3 ∷ [], pass ((42, 13) ∷ (99, 94) ∷ (42, 13) ∷ (69, 48) ∷ (80, 75) ∷ (69, 48) ∷ (80, 75) ∷ (69, 48) ∷ (80, 75) ∷ (99, 94) ∷ (118, 113) ∷ []))
+    ∷ (model shadow, 2 ∷ [], pass ((49, 44) ∷ (49, 44) ∷ (68, 63) ∷ (79, 74) ∷ []))
+    ∷ (model self-reader, [], fail (reading 42))
+    ∷ (model self-reader, 0 ∷ [], pass ((72, 67) ∷ []))
     -- a default, and a second one
-    ∷ (graph "x" "x" (node "x" [] "y" ∷ []) "y", [], pass ((33, 13) ∷ (44, 39) ∷ []))
-    ∷ (graph "x" "x x" (node "x" [] "y" ∷ []) "y", [], fail (binding 35 13))
+    ∷ (model (graph "x" "x" (node "x" [] "y" ∷ []) "y"), [], pass ((33, 13) ∷ (44, 39) ∷ []))
+    ∷ (model (graph "x" "x x" (node "x" [] "y" ∷ []) "y"), [], fail (binding 35 13))
+    -- a default in a body: at IR 3 it binds nothing new, and a second one binds a bound name; at IR 4 the first does
+    ∷ (modelOf 3 (defaulting "i"), 2 ∷ [], pass ((62, 42) ∷ (62, 42) ∷ (81, 76) ∷ []))
+    ∷ (modelOf 3 (defaulting "i i"), [], fail (binding 64 42))
+    ∷ (modelOf 4 (defaulting "i"), [], fail (binding 57 42))
+    ∷ (held Model·graph (defaulting "i") ++ counted Model·ir-version 3, [], pass ((56, 36) ∷ (75, 70) ∷ []))
     -- a body binds an outer name
-    ∷ (graph "x" "" (node "" (body "do" (graph "x" "" [] "x") ∷ []) "y" ∷ []) "y", [], fail (binding 42 13))
+    ∷ (model (graph "x" "" (node "" (body "do" (graph "x" "" [] "x") ∷ []) "y" ∷ []) "y"), [], fail (binding 42 13))
     -- use before definition, an output that is not defined, a name bound twice
-    ∷ (graph "x" "" (node "a" [] "y" ∷ node "x" [] "a" ∷ []) "y", [], fail (reading 26))
-    ∷ (graph "x" "" (node "x" [] "a" ∷ []) "y", [], fail (reading 37))
-    ∷ (graph "x" "" (node "x" [] "y y" ∷ []) "y", [], fail (binding 35 32))
+    ∷ (model (graph "x" "" (node "a" [] "y" ∷ node "x" [] "a" ∷ []) "y"), [], fail (reading 26))
+    ∷ (model (graph "x" "" (node "x" [] "a" ∷ []) "y"), [], fail (reading 37))
+    ∷ (model (graph "x" "" (node "x" [] "y y" ∷ []) "y"), [], fail (binding 35 32))
     -- the same output listed twice; a left-out input and a left-out output
-    ∷ (graph "x" "" (node "x" [] "y" ∷ []) "y y", [], pass ((26, 13) ∷ (37, 32) ∷ (50, 32) ∷ []))
-    ∷ (graph "x" "" (node " x" [] " y" ∷ []) "y", [], pass ((28, 13) ∷ (41, 36) ∷ []))
+    ∷ (model (graph "x" "" (node "x" [] "y" ∷ []) "y y"), [], pass ((26, 13) ∷ (37, 32) ∷ (50, 32) ∷ []))
+    ∷ (model (graph "x" "" (node " x" [] " y" ∷ []) "y"), [], pass ((28, 13) ∷ (41, 36) ∷ []))
     ∷ []
 
-runs-hold : map (λ s. told (run (model (s .0)) (s .1))) runs ≡ map (λ s. s .2) runs
-unfolding told runs straight two-bodies one-body inner outer nested shadow self-reader Models·computes Runner·computes
+runs-hold : map (λ s. told (run (s .0) (s .1))) runs ≡ map (λ s. s .2) runs
+unfolding told runs straight two-bodies one-body inner outer nested shadow self-reader defaulting Models·computes Runner·computes
 runs-hold = refl

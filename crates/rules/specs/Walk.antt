@@ -11,14 +11,15 @@ use Rattle.rules.specs.Identifier.{identifier, Identifier·computes}
 use Rattle.rules.specs.Utf8.{wellFormed, Utf8·computes}
 use Rattle.rules.specs.Names.{Name, Names·computes}
 
--- Which graph is judged: the domains that its model imports, and whether it is the main graph.
+-- What surrounds a graph: the domains that its model imports, whether it is the main graph, and its model's IR version.
 pub record Context : Type 0 where
   pub imports : List Bytes
   pub main : Bool
+  pub ir-version : ℕ
 
 -- A graph inside this one.
 unfoldable pub nestedIn : Context → Context
-nestedIn c = record { imports = c .imports; main = false }
+nestedIn c = record { imports = c .imports; main = false; ir-version = c .ir-version }
 
 -- What is visible, the newest first; the nodes so far; the most names visible together so far; and how many names that were tested for 21
 -- so far are not identifiers.

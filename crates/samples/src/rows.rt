@@ -35,16 +35,8 @@ pub(crate) fn imports() {
     );
 }
 
-// "M0 with ir_version 4 or 10 / 3 or 11 | accepted / 10 at 0"
+// "M0 with ir_version 4 or 10 / 3 or 11 | accepted / 10 at 0", which "becomes 3 or 11 / 2 or 12".
 pub(crate) fn ir_versions() {
-    row(
-        b"M0 with ir_version 4",
-        b"\x08\x04\x42\x02\x10\x0D\x3A\x03\x12\x01g",
-    );
-    row(
-        b"M0 with ir_version 10",
-        b"\x08\x0A\x42\x02\x10\x0D\x3A\x03\x12\x01g",
-    );
     row(
         b"M0 with ir_version 3",
         b"\x08\x03\x42\x02\x10\x0D\x3A\x03\x12\x01g",
@@ -52,6 +44,14 @@ pub(crate) fn ir_versions() {
     row(
         b"M0 with ir_version 11",
         b"\x08\x0B\x42\x02\x10\x0D\x3A\x03\x12\x01g",
+    );
+    row(
+        b"M0 with ir_version 2",
+        b"\x08\x02\x42\x02\x10\x0D\x3A\x03\x12\x01g",
+    );
+    row(
+        b"M0 with ir_version 12",
+        b"\x08\x0C\x42\x02\x10\x0D\x3A\x03\x12\x01g",
     );
 }
 

@@ -2,7 +2,7 @@
 -- of this; contracts of the code do.
 use Prim.Native.Nat.{ℕ, zero, suc, _+_, _-_, _*_, _^_, _≤_, _<_}
 use mathlib.Core.Path.{_≡_}
-use mathlib.Core.Bool.{Bool, true, false}
+use mathlib.Core.Bool.{true, false}
 use mathlib.Core.List.{List, [], _∷_, map}
 use lib.ListN.{length, take, getD, set}
 use lib.Dec.{leb}
@@ -13,10 +13,11 @@ use Rattle.wire.specs.Message.{message}
 use Rattle.wire.specs.Encoding.{contentsAt}
 use Rattle.schema.specs.declared.Kind.{Kind}
 use Rattle.schema.specs.Opened.{Walked}
+use Rattle.index.specs.Table.{seek, since}
 use Rattle.index.specs.declared.Found.{Found}
 use Rattle.index.specs.declared.Found.the-variants as found
 use Rattle.rules.specs.Names.{Name, inputsOf}
-use Rattle.rules.specs.Walk.{Walk, visible}
+use Rattle.rules.specs.Walk.{Walk}
 use Rattle.rules.specs.Verdict.{WIDTH}
 use Rattle.values.specs.declared.Ruling.{Ruling}
 use Rattle.values.specs.declared.Ruling.the-variants as ruling
@@ -123,6 +124,6 @@ pub record Keeps (used : ℕ) (before after : List ℕ) : Type 0 where
   pub size : length after ≡ length before
   pub below : take (WIDTH * used) after ≡ take (WIDTH * used) before
 
--- In the main graph the oldest `inputs` names of the scope are those of its inputs.
-pub record Defaultable (model : Bytes) (main : Bool) (graph : Field) (cells : List ℕ) (inputs : ℕ) : Type 0 where
-  pub names : main ≡ true → (x : Bytes) → member x (inputsOf model (message model graph)) ≡ visible x (scopeIn model cells inputs)
+-- The names of a graph's inputs are those of the records from `outer` on, up to `inner`.
+pub record Defaultable (model : Bytes) (graph : Field) (cells : List ℕ) (outer inner : ℕ) : Type 0 where
+  pub names : (x : Bytes) → since outer (seek x (bytesIn model cells inner)) ≡ member x (inputsOf model (message model graph))

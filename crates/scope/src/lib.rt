@@ -7,6 +7,7 @@ pub use remembered::Index;
 pub use remembered::define;
 pub use remembered::list;
 pub use remembered::sees;
+pub use remembered::sees_since;
 pub use scopes::Progress;
 pub use scopes::Step;
 pub use scopes::clear;

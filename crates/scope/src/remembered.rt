@@ -10,7 +10,7 @@ ghost use Rattle.wire.specs.Message.{text, bytesOf, message};
 ghost use Rattle.rules.specs.Names.{nameIn};
 ghost use Rattle.rules.specs.Verdict.{fills};
 ghost use Rattle.rules.specs.Walk.{visible, define};
-ghost use Rattle.index.specs.Table.{seek};
+ghost use Rattle.index.specs.Table.{seek, since};
 ghost use Rattle.index.specs.Memory.{known};
 ghost use Rattle.scope.specs.Scope.{recorded, scopeIn, bytesIn, walkIn, stepSays, grows, Direct, Keeps};
 ghost use Rattle.scope.specs.Recall.{Recalls, Recalling, Recalled, Remembering, RememberedOn, AddedOn};
@@ -89,6 +89,23 @@ pub fn sees(model: &[u8], cells: &[u32], extra: &[u32], ix: Index, used: usize, 
     ensures { λ r. ⌜ r ≡ visible (now (name .entry)) (scopeIn (now (model .entry)) (now (cells .entry)) used) ⌝ }
 {
     find(model, cells, extra, ix, used, name).since(0)
+}
+
+// Is it among those of the records from `outer` on, up to `inner`?
+pub fn sees_since(
+    model: &[u8],
+    cells: &[u32],
+    extra: &[u32],
+    ix: Index,
+    outer: usize,
+    inner: usize,
+    name: &[u8],
+) -> bool
+    requires { ⌜ Recalling (now model) ix (now cells) (now extra) ⌝ }
+    requires { ⌜ isEmpty (now name) ≡ false ⌝ }
+    ensures { λ r. ⌜ r ≡ since outer (seek (now (name .entry)) (bytesIn (now (model .entry)) (now (cells .entry)) inner)) ⌝ }
+{
+    find(model, cells, extra, ix, inner, name).since(outer)
 }
 
 // The name in a field is that of the record at `place`.

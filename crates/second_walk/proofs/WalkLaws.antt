@@ -9,7 +9,7 @@ use lib.ListN.{length}
 use Rattle.varint.specs.Outcome.{pass, _>>=_, _>>_, Judged, refused}
 use Rattle.varint.specs.Bytes.{Bytes}
 use Rattle.wire.specs.Wire.{field}
-use Rattle.wire.specs.Message.{allOf, firstOf, message, whole}
+use Rattle.wire.specs.Message.{allOf, firstOf, numberOf, message, whole}
 use Rattle.wire.specs.Answers.{soughtSays, foundIn}
 use Rattle.varint.specs.declared.Refusal.{Refusal}
 use Rattle.wire.specs.declared.Field.{Field}
@@ -21,7 +21,7 @@ use Rattle.varint.proofs.Passing.{passed-tells}
 use Rattle.wire.proofs.Reading.{Fits, AtTag, field-tells}
 use Rattle.wire.proofs.MessageLaws.{missing, found, first-read}
 use Rattle.schema.specs.declared.Kind.the-variants.{Model, Graph}
-use Rattle.schema.specs.Numbers.{Model·graph}
+use Rattle.schema.specs.Numbers.{Model·ir-version, Model·graph}
 use Rattle.schema.specs.FirstWalk.{firstWalk}
 use Rattle.schema.specs.Opened.{Walked}
 use Rattle.schema.proofs.Opened.{walked-inner, walked-whole, model-graph}
@@ -30,7 +30,7 @@ use Rattle.rules.specs.Walk.{Walk, start}
 use Rattle.rules.specs.Graph.{graph}
 use Rattle.rules.specs.Count.{namesIn}
 use Rattle.rules.proofs.NamesFew.{names-few}
-use Rattle.rules.specs.Header.{header, secondWalkTo, secondWalk}
+use Rattle.rules.specs.Header.{inModel, header, secondWalkTo, secondWalk}
 use Rattle.values.specs.Answers.{rulingSays}
 use Rattle.scope.specs.Scope.{scopeIn, walkIn, stepSays, standing, Enters, Countable}
 use Rattle.messages.specs.Again.{graphAgain}
@@ -54,7 +54,7 @@ module _ (model list : Bytes) (full : ℕ → Bool) where
   Head = header model list (message model (whole model))
 
   abbrev Main : Option Field → List Bytes → Judged Walk
-  Main o imports = elim o [ none ↦ refused 11 (whole model .place) | some g ↦ graph model full 8 (record { imports = imports; main = true }) start g ]
+  Main o imports = elim o [ none ↦ refused 11 (whole model .place) | some g ↦ graph model full 8 (inModel (message model (whole model)) imports) start g ]
 
   headed : {o : Judged (List Bytes)} → Head ≡ o → secondWalk model list full ≡ (o >>= Main (firstOf Model·graph (message model (whole model))))
   unfolding secondWalk secondWalkTo message
@@ -76,11 +76,13 @@ module _ (model list : Bytes) (full : ℕ → Bool) where
       pub walk-missing : a ≡ sought.Missing → refused 11 (m .place) ≡ secondWalk model list full
       walk-missing u = ap (λ (f : Field). refused 11 (f .place)) em ∙ mained (missing model Model·graph m a read u)
 
-      pub walk-found : {g : Field} {next : Cursor} → a ≡ sought.Found g next → (cells : List ℕ)
-          → graphAgain model full 8 true (walkIn model cells Outset) g ≡ secondWalk model list full
-      unfolding walkIn scopeIn start
-      walk-found {g} u cells =
-          sym (graph-again model full 8 (record { imports = passed .0; main = true }) (header-imports model list (passed .0) (passed .1)) start g)
+      -- v is the IR version
+      pub walk-found : {v : ℕ} → v ≡ numberOf Model·ir-version (message model m) → {g : Field} {next : Cursor} → a ≡ sought.Found g next → (cells : List ℕ)
+          → graphAgain model full 8 (record { main = true; version = v }) (walkIn model cells Outset) g ≡ secondWalk model list full
+      unfolding walkIn scopeIn start inModel
+      walk-found {v} ev {g} u cells =
+          ap (λ (n : ℕ). graphAgain model full 8 (record { main = true; version = n }) start g) (ev ∙ ap (λ (f : Field). numberOf Model·ir-version (message model f)) em)
+          ∙ sym (graph-again model full 8 (inModel (message model (whole model)) (passed .0)) (header-imports model list (passed .0) (passed .1)) start g)
           ∙ mained (found model Model·graph m a read u)
 
 -- there is room to count all its names

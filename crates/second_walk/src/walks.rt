@@ -17,8 +17,10 @@ use cycle::graph;
 use headers::Heading;
 use headers::header;
 use headers::model_outline;
+use headers::number_from;
 use headers::ruling_of;
 use headers::whole;
+use messages::Surroundings;
 use scope::Index;
 use scope::Progress;
 use scope::Step;
@@ -26,6 +28,7 @@ use scope::standing;
 use scope::stopped;
 use values::Ruling;
 use values::numbers::MODEL_GRAPH;
+use values::numbers::MODEL_IR_VERSION;
 use wire::Outline;
 use wire::Sought;
 
@@ -77,8 +80,12 @@ pub fn second_walk(
         split: ix.split,
         imports: imports,
     };
+    let around = Surroundings {
+        main: true,
+        version: number_from(model, m, MODEL_IR_VERSION, o.first),
+    };
     match m.first_from(model, MODEL_GRAPH, o.second) {
         Sought::Missing => stopped(Ruling::NO_GRAPH, m.place),
-        Sought::Found(g, _) => graph(model, cells, extra, known, top, DEEPEST, true, start, g),
+        Sought::Found(g, _) => graph(model, cells, extra, known, top, DEEPEST, around, start, g),
     }
 }

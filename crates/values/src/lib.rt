@@ -27,7 +27,8 @@ pub enum Ruling {
     Refused(Refusal),
 }
 
-// Numbers of document 01's table: those of size and list, of the second walk, and of a graph that stands too deep for it.
+// Numbers of document 01's table, and 43 of document 02: those of size and list, of the second walk, and of a graph that stands too deep
+// for it.
 impl Ruling {
     pub const TOO_DEEP: u8 = 6;
 
@@ -86,4 +87,6 @@ impl Ruling {
     pub const NEGATIVE_DIM: u8 = 38;
 
     pub const CELLS_FULL: u8 = 40;
+
+    pub const INITIALIZER_NOT_INPUT: u8 = 43;
 }

@@ -1,4 +1,4 @@
-//! Initializers of the main graph: names of their own, or defaults of inputs, each once.
+//! Initializers of the main graph: names of their own, or defaults of inputs, each once. Those of IR version 3: `nested_defaults.rs`.
 
 use super::imports::{self, import};
 use super::parts::*;
@@ -14,13 +14,14 @@ pub fn rows() -> Vec<Row> {
 }
 
 /// Behind many imports, which are remembered first: each input takes two cells, and with these come extra cells enough for its default.
-fn behind_imports(row: Row) -> Row {
+pub(super) fn behind_imports(row: Row) -> Row {
     let domains = names('d', MANY);
     let imports = domains.iter().fold(Tree::new(Message::Model), |model, domain| model.tree(8, import(domain, 13)));
     let imports = imports.encode();
     let moved = |place: u64| place + imports.len() as u64;
     let answer = match row.answer {
-        Verdict::Refused { place, first, .. } => Verdict::twice(moved(place), moved(first)),
+        Verdict::Refused { number: 23, place, first } => Verdict::twice(moved(place), moved(first)),
+        Verdict::Refused { number, place, .. } => Verdict::refused(number, moved(place)),
         accepted => accepted,
     };
     let name = format!("{}, behind many imports", row.name);
@@ -28,7 +29,7 @@ fn behind_imports(row: Row) -> Row {
 }
 
 /// A graph with these inputs and initializers, in this order on the wire.
-fn main_graph(inputs: &[String], tensors: &[String]) -> Tree {
+pub(super) fn given(inputs: &[String], tensors: &[String]) -> Tree {
     let graph = inputs.iter().fold(graph([]), |graph, name| graph.tree(11, value(name)));
     tensors.iter().fold(graph, |graph, name| graph.tree(5, tensor(name)))
 }
@@ -38,7 +39,7 @@ fn list(names: &[&str]) -> Vec<String> {
 }
 
 fn of(inputs: &[&str], tensors: &[&str]) -> Vec<u8> {
-    model(main_graph(&list(inputs), &list(tensors)))
+    model(given(&list(inputs), &list(tensors)))
 }
 
 fn few() -> Vec<Row> {
@@ -64,7 +65,7 @@ fn few_twice() -> Vec<Row> {
     ]
 }
 
-/// A nested graph gives no defaults.
+/// A nested graph gives no defaults, from version 4 on.
 fn nested() -> Vec<Row> {
     let within = |graph_: Tree| model(graph([holder([graph_])]).tree(11, value("x")).tree(5, tensor("x")));
     let own = graph([]).tree(11, value("y")).tree(5, tensor("y"));
@@ -83,15 +84,15 @@ fn many() -> Vec<Row> {
     let inputs = names('x', MANY);
     let backwards: Vec<String> = inputs.iter().rev().cloned().collect();
     let mut rows = vec![
-        accepted("many defaults", model(main_graph(&inputs, &inputs)), 0, MANY),
-        accepted("many defaults in reverse", model(main_graph(&inputs, &backwards)), 0, MANY),
-        accepted("many inputs, few defaults", model(main_graph(&inputs, &inputs[9..11])), 0, MANY),
+        accepted("many defaults", model(given(&inputs, &inputs)), 0, MANY),
+        accepted("many defaults in reverse", model(given(&inputs, &backwards)), 0, MANY),
+        accepted("many inputs, few defaults", model(given(&inputs, &inputs[9..11])), 0, MANY),
     ];
     for at in AGAIN {
         for order in [&inputs, &backwards] {
             let again = [&order[..], &inputs[at..=at]].concat();
             let (field, first) = ((TENSOR_NAME, inputs[at].as_str(), 1), (LISTED, inputs[at].as_str(), 0));
-            rows.push(defined("one of many again", model(main_graph(&inputs, &again)), field, first));
+            rows.push(defined("one of many again", model(given(&inputs, &again)), field, first));
         }
     }
     rows
@@ -101,12 +102,12 @@ fn many() -> Vec<Row> {
 fn many_between() -> Vec<Row> {
     let (inputs, own) = (names('x', MANY), names('w', MANY));
     let mixed: Vec<String> = inputs.iter().zip(&own).flat_map(|(x, w)| [w.clone(), x.clone()]).collect();
-    let mut rows = vec![accepted("by turns", model(main_graph(&inputs, &mixed)), 0, 2 * MANY)];
+    let mut rows = vec![accepted("by turns", model(given(&inputs, &mixed)), 0, 2 * MANY)];
     for at in AGAIN {
         for (name, tag) in [(&inputs[at], LISTED), (&own[at], TENSOR_NAME)] {
             let again = [&mixed[..], std::slice::from_ref(name)].concat();
             let (field, first) = ((TENSOR_NAME, name.as_str(), 1), (tag, name.as_str(), 0));
-            rows.push(defined("by turns, one again", model(main_graph(&inputs, &again)), field, first));
+            rows.push(defined("by turns, one again", model(given(&inputs, &again)), field, first));
         }
     }
     rows

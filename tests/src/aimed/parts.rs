@@ -14,8 +14,13 @@ pub const LISTED: u8 = 0x0A;
 pub const DOMAIN: u8 = 0x3A;
 
 pub fn model(graph: Tree) -> Vec<u8> {
+    model_at(8, graph)
+}
+
+/// A model of an IR version.
+pub fn model_at(ir_version: u64, graph: Tree) -> Vec<u8> {
     let import = Tree::new(Message::OperatorSetId).number(2, 13);
-    Tree::new(Message::Model).number(1, 8).tree(8, import).tree(7, graph).encode()
+    Tree::new(Message::Model).number(1, ir_version).tree(8, import).tree(7, graph).encode()
 }
 
 /// A graph of these nodes.

@@ -88,7 +88,8 @@ fn expected(files: &Files) -> String {
 fn cases() -> Vec<Files> {
     let mut cases = absences();
     cases.extend(sizes());
-    for row in rows::document().into_iter().chain(rows::by_hand()).chain(rows::names()).chain(rows::wide()) {
+    let by_hand = rows::by_hand().into_iter().chain(rows::ir_versions());
+    for row in rows::document().into_iter().chain(by_hand).chain(rows::names()).chain(rows::wide()) {
         cases.push(Files { label: row.name, model: Some(row.model), list: Some(row.list) });
     }
     for number in 0..CASES {

@@ -3,6 +3,7 @@
 //! test the order of the rules.
 
 mod header;
+mod initializers;
 mod names;
 mod padding;
 mod rules;
@@ -23,7 +24,10 @@ pub struct Fault {
 }
 
 pub fn all() -> Vec<&'static Fault> {
-    [wires::FAULTS, padding::FAULTS, header::FAULTS, rules::FAULTS, names::FAULTS].into_iter().flatten().collect()
+    [wires::FAULTS, padding::FAULTS, header::FAULTS, rules::FAULTS, names::FAULTS, initializers::FAULTS]
+        .into_iter()
+        .flatten()
+        .collect()
 }
 
 impl Fault {

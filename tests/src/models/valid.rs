@@ -1,14 +1,19 @@
 //! Models that keep every rule of document 01, made with their true counts.
 
+mod values;
+
+pub use values::good_type;
+
 use super::lists::{self, alias, Entry};
 use super::names::some_name;
-use super::proto::{Item, Tree, Value};
+use super::proto::Tree;
 use super::wild;
 use crate::oplist;
 use crate::parts::identifier;
 use crate::rng::Rng;
 use crate::schema::{Message, DEEPEST_GRAPH};
 use crate::verdict::Counts;
+use values::{dim_params, with_plain_value};
 
 /// A sound model, a sound list that serves it, and the counts that its acceptance must report.
 #[derive(Clone, Debug)]
@@ -27,7 +32,7 @@ pub fn valid(rng: &mut Rng) -> Made {
 pub fn of_size(rng: &mut Rng, room: usize) -> Made {
     let entries = lists::sound(rng);
     let mut maker = Maker::new(rng, room);
-    let mut tree = Tree::new(Message::Model).number(1, 4 + maker.rng.below(7) as u64);
+    let mut tree = Tree::new(Message::Model).number(1, maker.ir_version);
     for import in maker.imports(&entries) {
         tree = tree.tree(8, import);
     }
@@ -40,11 +45,21 @@ pub fn of_size(rng: &mut Rng, room: usize) -> Made {
     if rng.chance(1, 4) {
         tree.items.insert(0, wild::like_a_name(rng));
     }
+    if rng.chance(1, 4) {
+        ir_version_last(&mut tree);
+    }
     Made { tree, entries, counts }
+}
+
+fn ir_version_last(model: &mut Tree) {
+    let (ir_version, others) = std::mem::take(&mut model.items).into_iter().partition(|item| item.number == 1);
+    model.items = others;
+    model.items.extend::<Vec<_>>(ir_version);
 }
 
 struct Maker<'r> {
     rng: &'r mut Rng,
+    ir_version: u64,
     /// The imported domains, the default one as the empty bytes.
     domains: Vec<Vec<u8>>,
     visible: Vec<Vec<u8>>,
@@ -60,7 +75,9 @@ struct Maker<'r> {
 impl<'r> Maker<'r> {
     fn new(rng: &'r mut Rng, room: usize) -> Maker<'r> {
         let bodies = *rng.pick(&[0, 3, 6, 9]);
-        Maker { rng, domains: Vec::new(), visible: Vec::new(), nodes: 0, names: 0, odd: 0, room, bodies }
+        // Version 3 has a rule of its own.
+        let ir_version = if rng.chance(1, 3) { 3 } else { 4 + rng.below(8) as u64 };
+        Maker { rng, ir_version, domains: Vec::new(), visible: Vec::new(), nodes: 0, names: 0, odd: 0, room, bodies }
     }
 
     fn imports(&mut self, entries: &[Entry]) -> Vec<Tree> {
@@ -117,7 +134,7 @@ impl<'r> Maker<'r> {
         let main = depth == 1;
         let outer = self.visible.len();
         let mut graph = Tree::new(Message::Graph).text(2, self.any());
-        for _ in 0..self.rng.below(3) {
+        for _ in 0..self.input_count(main) {
             let name = self.fresh();
             graph = graph.tree(11, self.value_info(name, main));
         }
@@ -143,16 +160,29 @@ impl<'r> Maker<'r> {
         graph
     }
 
-    /// New names, and in the main graph some of its inputs, each once: their defaults.
-    fn initializer_names(&mut self, outer: usize, main: bool) -> Vec<Vec<u8>> {
-        let mut names = Vec::new();
-        if main {
-            let inputs = self.visible[outer..].to_vec();
-            names.extend(inputs.into_iter().filter(|_| self.rng.chance(1, 3)));
-        }
-        // A few models have hundreds of names.
+    /// A few models have hundreds of names: at version 3 inputs, and later initializers.
+    fn wide(&mut self, main: bool) -> Option<usize> {
         let wide = main && self.rng.chance(1, 100);
-        let more = if wide { 100 + self.rng.below(200) } else { self.rng.below(3) };
+        wide.then(|| 100 + self.rng.below(200))
+    }
+
+    fn input_count(&mut self, main: bool) -> usize {
+        let wide = if self.ir_version == 3 { self.wide(main) } else { None };
+        wide.unwrap_or_else(|| self.rng.below(3))
+    }
+
+    /// Some of the graph's inputs, each once, in any order: their defaults. Only the main graph has them from version 4 on, and then new
+    /// names too.
+    fn initializer_names(&mut self, outer: usize, main: bool) -> Vec<Vec<u8>> {
+        let defaults_only = self.ir_version == 3;
+        let inputs = if main || defaults_only { self.visible[outer..].to_vec() } else { Vec::new() };
+        let more = if defaults_only { 0 } else { self.wide(main).unwrap_or_else(|| self.rng.below(3)) };
+        let mut names = Vec::new();
+        for name in inputs {
+            if self.rng.chance(if defaults_only { 2 } else { 1 }, 3) {
+                names.insert(self.rng.below(names.len() + 1), name);
+            }
+        }
         for _ in 0..more {
             let name = self.fresh();
             names.insert(self.rng.below(names.len() + 1), name);
@@ -255,62 +285,5 @@ fn unused(rng: &mut Rng, taken: &mut Vec<Vec<u8>>, may_be_empty: bool) -> Vec<u8
     name
 }
 
-/// The carrier of every attribute type that holds no graph.
-fn with_plain_value(rng: &mut Rng, mut attribute: Tree, kind: usize) -> Tree {
-    let some = rng.below(3);
-    match kind {
-        1 if some > 0 => attribute.push(2, Value::Four([0, 0, 128, 63])),
-        2 if some > 0 => attribute.push(3, Value::Varint(rng.word())),
-        3 if some > 0 => attribute.push(4, Value::Bytes(b"free bytes \xff".to_vec())),
-        4 => attribute.push(5, Value::Tree(wild::tree(rng, Message::Tensor, 2))),
-        11 => attribute.push(22, Value::Bytes(rng.bytes(some))),
-        13 => attribute.push(14, Value::Bytes(rng.bytes(some))),
-        _ => (0..some).for_each(|_| attribute.items.extend(list_element(rng, kind))),
-    }
-    attribute
-}
-
-/// One field of a list type; floats and ints come one by one or packed, and a packed length is not looked into.
-fn list_element(rng: &mut Rng, kind: usize) -> Option<Item> {
-    let packed = rng.chance(1, 3);
-    let count = rng.below(9);
-    let (number, value) = match kind {
-        6 if packed => (7, Value::Bytes(rng.bytes(count))),
-        6 => (7, Value::Four([1, 2, 3, 4])),
-        7 if packed => (8, Value::Bytes(rng.bytes(count))),
-        7 => (8, Value::Varint(rng.word() >> rng.below(64))),
-        8 => (9, Value::Bytes(rng.bytes(count))),
-        9 => (10, Value::Tree(wild::tree(rng, Message::Tensor, 2))),
-        12 => (23, Value::Bytes(rng.bytes(count))),
-        14 => (15, Value::Bytes(rng.bytes(count))),
-        _ => return None,
-    };
-    Some(Item::new(number, value))
-}
-
-/// The variables of a type.
-fn dim_params(kind: &Tree) -> Vec<Vec<u8>> {
-    let shapes = kind.children(1).flat_map(|tensor| tensor.children(2));
-    shapes.flat_map(|shape| shape.children(1)).flat_map(|dim| dim.all_bytes(2)).collect()
-}
-
-/// A type that the main graph's inputs and outputs may have.
-pub fn good_type(rng: &mut Rng) -> Tree {
-    let mut shape = Tree::new(Message::Shape);
-    for _ in 0..rng.below(4) {
-        let dim = Tree::new(Message::Dimension);
-        shape = shape.tree(
-            1,
-            match rng.below(4) {
-                0 => dim,
-                1 => dim.number(1, rng.word() >> (1 + rng.below(63))),
-                2 => dim.number(1, 0),
-                _ => dim.text(2, some_name(rng)),
-            },
-        );
-    }
-    let tensor = Tree::new(Message::TypeTensor).number(1, 1 + rng.below(23) as u64).tree(2, shape);
-    let kind = Tree::new(Message::Type).tree(1, tensor);
-    // The denotation, field 6, is no member of the "one of" and may repeat.
-    (0..rng.below(3)).fold(kind, |kind, _| kind.text(6, b"DATA_BATCH"))
-}
+#[cfg(test)]
+mod tests;

@@ -6,8 +6,8 @@ use crate::rng::Rng;
 use crate::schema::{row, rows, Form, Message, Often};
 
 /// Numbers at the edges of what a rule asks.
-pub const EDGES: [u64; 16] =
-    [0, 1, 2, 4, 5, 10, 11, 14, 15, 23, 24, 1 << 32, (1 << 32) + 1, 1 << 63, u64::MAX, u64::MAX - (1 << 32) + 2];
+pub const EDGES: [u64; 18] =
+    [0, 1, 2, 3, 4, 5, 10, 11, 12, 14, 15, 23, 24, 1 << 32, (1 << 32) + 1, 1 << 63, u64::MAX, u64::MAX - (1 << 32) + 2];
 
 /// A message with fields of its rows, `depth` messages deep at most.
 pub fn tree(rng: &mut Rng, message: Message, depth: usize) -> Tree {

@@ -1,6 +1,8 @@
 //! Rows worked out by hand from document 01 and the readings of its open points.
 
-use super::{accepted, domains, hex, lengths, odd, padded, refused, row, twice, versions, with_odd, Row, M0};
+use super::{
+    accepted, domains, hex, ir_versions, lengths, odd, padded, refused, row, twice, versions, with_odd, Row, M0,
+};
 use crate::checker::Verdict;
 use crate::models::lists::L;
 
@@ -17,11 +19,7 @@ pub(super) fn in_graph(graph: &str) -> Vec<u8> {
 pub fn by_hand() -> Vec<Row> {
     let mut rows = Vec::new();
     for (name, graph, cells, answer) in [GRAPHS, twice::GRAPHS, padded::GRAPHS, padded::PASSING].concat() {
-        let answer = match answer {
-            (0, nodes, names) => accepted(nodes, names),
-            (number, place, first) => Verdict::Refused { number, place, first },
-        };
-        rows.push(row(name, in_graph(graph), &L, cells, answer));
+        rows.push(row(name, in_graph(graph), &L, cells, self::answer(answer)));
     }
     for (name, graph, cells, (nodes, names, odd)) in odd::GRAPHS {
         rows.push(row(name, in_graph(graph), &L, *cells, with_odd(*nodes, *names, *odd)));
@@ -31,13 +29,24 @@ pub fn by_hand() -> Vec<Row> {
     }
     rows.extend(other_lists());
     rows.extend(versions::versions());
+    rows.extend(ir_versions::at_3());
     rows.extend(domains::domains());
     rows.extend(lengths::near());
     rows
 }
 
-/// A graph by name, bytes, cells and answer: (0, nodes, names), (23, place, first) or (number, place, 0).
-pub(super) type GraphRow = (&'static str, &'static str, usize, (u64, u64, u64));
+/// (0, nodes, names), (23, place, first) or (number, place, 0).
+pub(super) type Answer = (u64, u64, u64);
+
+pub(super) fn answer(answer: Answer) -> Verdict {
+    match answer {
+        (0, nodes, names) => accepted(nodes, names),
+        (number, place, first) => Verdict::Refused { number, place, first },
+    }
+}
+
+/// A graph by name, bytes, cells and answer.
+pub(super) type GraphRow = (&'static str, &'static str, usize, Answer);
 
 #[rustfmt::skip]
 const GRAPHS: &[GraphRow] = &[
@@ -128,7 +137,7 @@ const MODELS: &[ModelRow] = &[
     ("field 0 with a known wire type", "02 00", 3, 0),
     ("a length of 2^64 - 1", "3A FF FF FF FF FF FF FF FF FF 01", 1, 0),
     ("a length past the graph and inside the model", "3A 02 12 02 08 08 08 08", 1, 2),
-    ("10 at ir_version", "42 02 10 0D 08 03 3A 03 12 01 67", 10, 4),
+    ("10 at ir_version", "42 02 10 0D 08 02 3A 03 12 01 67", 10, 4),
     ("11 before 12", "08 08", 11, 0),
     ("12", "08 08 3A 03 12 01 67", 12, 0),
     ("13 by the other name", "08 08 42 02 10 0D 42 0B 0A 07 61 69 2E 6F 6E 6E 78 10 0D 3A 03 12 01 67", 13, 6),

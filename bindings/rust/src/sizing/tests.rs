@@ -150,6 +150,7 @@ fn hostile_counts() {
         ("attributes of no bytes", model(&part(1, &b"\x2A\x00".repeat(many)))),
         ("imports", [model(b""), import.repeat(many)].concat()),
         ("initializers of one name", model(&b"\x2A\x05\x10\x01\x42\x01w".repeat(many))),
+        ("initializers of a body", model(&part(1, &part(5, &part(6, &b"\x2A\x05\x10\x01\x42\x01w".repeat(many)))))),
         ("nodes of one name", model(&b"\x0A\x09\x12\x01a\x1A\x01n\x22\x01X".repeat(many))),
         ("attributes of many nodes", model(&part(1, ATTRIBUTE).repeat(many))),
         ("attributes before a fault of the wire", model(&[part(1, &ATTRIBUTE.repeat(many)), vec![0]].concat())),
@@ -168,6 +169,19 @@ fn hostile_counts() {
     }
 }
 
+/// At IR version 3: a body with so many inputs, and a default for each.
+fn nested_defaults(count: usize) -> Vec<u8> {
+    let name = |number, at: usize| part(number, format!("i{at:06x}").as_bytes());
+    let input = |at| part(11, &name(1, at));
+    let default = |at| part(5, &[name(8, at), b"\x10\x01".to_vec()].concat());
+    let inside: Vec<u8> = (0..count).map(input).chain((0..count).rev().map(default)).flatten().collect();
+    let body = part(6, &[b"\x12\x01h", &inside[..]].concat());
+    let attribute = part(5, &[b"\x0A\x01k\xA0\x01\x05", &body[..]].concat());
+    let mut model = model(&part(1, &[b"\x12\x00\x22\x01X", &attribute[..]].concat()));
+    model[1] = 3;
+    model
+}
+
 /// Lists that are longer than any first try has room for take no longer, name for name.
 #[test]
 fn long_lists() {
@@ -183,6 +197,7 @@ fn long_lists() {
     };
     let all = Accepted { nodes: count as u64, names: count as u64, odd: 0 };
     assert_eq!(check(&model(&nodes('v', count)), &list()), Ok(all));
+    assert_eq!(check(&nested_defaults(count), &list()), Ok(Accepted { nodes: 1, names: count as u64, odd: 0 }));
     let twice = [nodes('v', count), nodes('w', 1)].concat();
     assert_eq!(check(&model(&twice), &list()).map_err(|r| r.number), Err(29));
 }

@@ -68,7 +68,31 @@ fn lists_that_are_open_at_once() {
     let inner = [node(&attributes(3), b"c"), node(&attributes(1), b"d"), field_of(5, INITIALIZER).repeat(9)].concat();
     let holder = [attributes(4), field_of(5, &field_of(6, &inner)), attributes(2)].concat();
     let nested = model(&[node(&[], b"a"), node(&holder, b"b"), node(&[], b"e")]);
-    assert_eq!(skim(&nested), need(14, 3, 7));
+    // the nine are open with the node before their own
+    assert_eq!(skim(&nested), need(14, 10, 7));
+    let few = [field_of(5, INITIALIZER), node(&[], b"c").repeat(4)].concat();
+    let holder = node(&field_of(5, &field_of(6, &few)), b"b");
+    assert_eq!(skim(&model(&[node(&[], b"a").repeat(2), holder])), need(8, 6, 1));
+}
+
+/// The initializers of siblings are not open together, nor those of a graph and of one in it; what a version allows is not asked.
+#[test]
+fn initializers_of_nested_graphs() {
+    let holder = |bodies: &[&[u8]]| {
+        let attributes = bodies.iter().flat_map(|body| field_of(5, &field_of(6, body))).collect::<Vec<u8>>();
+        field_of(1, &[&b"\x22\x01X"[..], &attributes].concat())
+    };
+    let initializers = |count| field_of(5, INITIALIZER).repeat(count);
+    for ir_version in [3, 4, 11] {
+        let model = |graph: &[u8]| [&[0x08, ir_version][..], &field_of(7, graph)].concat();
+        assert_eq!(skim(&model(&holder(&[&initializers(9)]))).bound, 9);
+        assert_eq!(skim(&model(&holder(&[&initializers(9), &initializers(7)]))).bound, 9);
+        let inner = [initializers(5), holder(&[&initializers(4)])].concat();
+        assert_eq!(skim(&model(&holder(&[&inner]))).bound, 5);
+        let inner = [node(&[], b"b").repeat(2), holder(&[&initializers(4)])].concat();
+        let named = [node(&[], b"a").repeat(3), holder(&[&inner])].concat();
+        assert_eq!(skim(&model(&named)).bound, 3 + 2 + 4);
+    }
 }
 
 #[test]

@@ -9,10 +9,18 @@ use crate::schema::Message;
 
 pub const FAULTS: &[Fault] = &[
     Fault {
-        name: "ir_version 3 or 11",
+        name: "ir_version 2 or 12",
         aims: 10,
         apply: |t, r| {
-            let v = *r.pick(&[3, 11]);
+            let v = *r.pick(&[2, 12]);
+            set(t, 1, v)
+        },
+    },
+    Fault {
+        name: "ir_version 3 or 11 in its low bits",
+        aims: 10,
+        apply: |t, r| {
+            let v = *r.pick(&[3, 11]) + (1 << *r.pick(&[4, 7, 8, 31, 32, 63]));
             set(t, 1, v)
         },
     },

@@ -46,7 +46,7 @@ fn same_again(tree: &mut Tree, rng: &mut Rng, number: u32) -> bool {
     true
 }
 
-fn tensor(name: &[u8], data_type: u64) -> Item {
+pub(super) fn tensor(name: &[u8], data_type: u64) -> Item {
     Item::new(5, Value::Tree(Tree::new(Message::Tensor).text(8, name).number(2, data_type)))
 }
 
@@ -78,7 +78,7 @@ fn initializer_of_input(tree: &mut Tree, rng: &mut Rng) -> bool {
 }
 
 /// The names that a graph binds or reads, its bodies' too.
-fn names_of(graph: &Tree) -> Vec<Vec<u8>> {
+pub(super) fn names_of(graph: &Tree) -> Vec<Vec<u8>> {
     let mut names = Vec::new();
     for (number, held) in [(11, 1), (5, 8), (12, 1)] {
         names.extend(graph.children(number).filter_map(|part| part.get_bytes(held)).map(<[u8]>::to_vec));
@@ -112,11 +112,11 @@ fn output_again(tree: &mut Tree, rng: &mut Rng) -> bool {
     true
 }
 
-fn holds_body(node: &Tree) -> bool {
+pub(super) fn holds_body(node: &Tree) -> bool {
     node.message == Message::Node && node.children(5).any(|attribute| attribute.has(6) || attribute.has(11))
 }
 
-fn body_mut<'t>(node: &'t mut Tree, rng: &mut Rng) -> Option<&'t mut Tree> {
+pub(super) fn body_mut<'t>(node: &'t mut Tree, rng: &mut Rng) -> Option<&'t mut Tree> {
     let own =
         node.items.iter_mut().filter_map(|item| if let Value::Tree(t) = &mut item.value { Some(t) } else { None });
     let mut bodies: Vec<&mut Tree> = own

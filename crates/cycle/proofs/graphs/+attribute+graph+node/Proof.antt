@@ -39,6 +39,7 @@ pub +attribute+graph+node-spec : {M : Type 1} → statement M
     (attribute-same-length-3 t)
     (attribute-same-length-4 t)
     (attribute-returns-3 t)
+    (λ c κs. search needs)
     (attribute-graph-requires t)
     (λ c. search needs)
     (λ c. search needs)

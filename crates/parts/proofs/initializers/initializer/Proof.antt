@@ -17,8 +17,8 @@ with-odd-requires c κs =
     let entry = c3 .before .before .before .before in
     initializer-fits _ _ _ (entry .pre .1 .1 .0) (named-few _ _ _ _ _ (c3 .read-name .ensures) (c1 .name .given .1))
 
-default-or-new-requires : tie.Need-default-or-new-requires
-default-or-new-requires c κs =
+declare-requires : tie.Need-declare-requires
+declare-requires c κs =
     let c4 = c .before .before .before .before in
     let c6 = c4 .before .before in
     let entry = c6 .before .before .before .before in (
@@ -36,7 +36,7 @@ returns c =
     let c11 = c9 .before .before in
     let c13 = c11 .before .before in
     let e = c9 .with-odd .ensures in
-    let d = c6 .default-or-new .ensures in (
+    let d = c6 .declare .ensures in (
       initializer-stops _ _ _ _ _ _ _ _ (c13 .read-name .ensures) (c11 .name .given .1) e _ _ (d .0) (c .enum-told .given .1),
       (odd-grows _ _ e _ (d .1 .0), (odd-keeps _ _ e (d .1 .1 .0), d .1 .1 .1)),
     )
@@ -52,7 +52,7 @@ returns-2 c =
     let c15 = c13 .before .before in
     let c17 = c15 .before .before in
     let e = c13 .with-odd .ensures in
-    let d = c10 .default-or-new .ensures in (
+    let d = c10 .declare .ensures in (
       initializer-goes _ _ _ _ _ _ _ _ (c17 .read-name .ensures) (c15 .name .given .1) e _ _ (d .0) (c4 .step .given .1)
           (c2 .number-of .ensures) (c1 .is-element .ensures) (c .if1 .taken),
       (subst (grows _) (c4 .step .given .1) (odd-grows _ _ e _ (d .1 .0)), (odd-keeps _ _ e (d .1 .1 .0), d .1 .1 .1)),
@@ -78,7 +78,7 @@ returns-4 c =
     let c17 = c15 .before .before in
     let c19 = c17 .before .before in
     let e = c15 .with-odd .ensures in
-    let d = c12 .default-or-new .ensures in (
+    let d = c12 .declare .ensures in (
       c .stopped .ensures .0 _ _ ∙ initializer-mistyped _ _ _ _ _ _ _ _ (c19 .read-name .ensures) (c17 .name .given .1) e _ _ (d .0)
           (c6 .step .given .1) (c4 .number-of .ensures) (c3 .is-element .ensures) (c2 .if1 .left) (c1 .place-of .ensures),
       (c .stopped .ensures .1 _, (odd-keeps _ _ e (d .1 .1 .0), d .1 .1 .1)),
@@ -92,7 +92,7 @@ initializer-spec =
     (λ c. search needs)
     (λ c. search needs)
     with-odd-requires
-    default-or-new-requires
+    declare-requires
     (λ c. search needs)
     (λ c. search needs)
     (λ c. search needs)

@@ -21,19 +21,20 @@ use Rattle.parts.proofs.initializers.initializers.Statement.{statement}
 use Rattle.parts.proofs.initializers.initializers.Tie as tie
 
 abbrev Inv-loop : tie.InvT-loop
-Inv-loop model cells₀ extra₀ ix top main graph inputs c₀ q₀ l₀ cells extra c q l =
-    Adding model Graph·initializer (c₀ .end) (c₀ .at) (tensorNames model) (λ n. initializerAgain model (fills n) main graph) (each (initializerAgain model
-    (fills (length cells₀)) main graph) (walkIn model cells₀ q₀) (allFrom model Graph·initializer (c₀ .end) (c₀ .at))) cells₀ q₀ cells q
-    c × Lists model ix top Graph·initializer Tensor·name graph extra₀ cells extra l c × Defaultable model main graph cells inputs × (inputs ≤ q .used)
+Inv-loop model cells₀ extra₀ ix top s outer graph inputs c₀ q₀ l₀ cells extra c q l =
+    Adding model Graph·initializer (c₀ .end) (c₀ .at) (tensorNames model) (λ n. initializerAgain model (fills n) s graph) (each (initializerAgain model
+    (fills (length cells₀)) s graph) (walkIn model cells₀ q₀) (allFrom model Graph·initializer (c₀ .end) (c₀ .at))) cells₀ q₀ cells q
+    c × Lists model ix top Graph·initializer Tensor·name graph extra₀ cells extra l c × Defaultable model graph cells (inputs .outer) (inputs .inner) × (inputs .inner ≤ q .used)
 
 abbrev μ-loop : tie.MeasureT-loop
-μ-loop model cells₀ extra₀ ix top main graph inputs c₀ q₀ l₀ cells extra c q l = c₀ .end - c .at
+μ-loop model cells₀ extra₀ ix top s outer graph inputs c₀ q₀ l₀ cells extra c q l = c₀ .end - c .at
 
 loop-holds : tie.Need-loop-holds Inv-loop μ-loop
 loop-holds c =
-    let entry = c .before .before .before .before in (
+    let c1 = c .before in
+    let entry = c1 .before .before .before .before in (
       adding-start _ _ _ _ _ _ _ (along-start _ _ _ _ _),
-      lists-start _ _ _ (entry .pre .1 .1 .1 .0) (entry .pre .1 .1 .1 .1 .1) _ (c .contents .ensures),
+      lists-start _ _ _ (entry .pre .1 .1 .1 .0) (entry .pre .1 .1 .1 .1 .1) _ (c1 .contents .ensures),
       entry .pre .1 .1 .1 .1 .0,
       omega arith,
     )
@@ -47,23 +48,23 @@ returns : tie.Need-returns Inv-loop μ-loop
 returns c =
     let c2 = c .before .before in
     let loop = c2 .before in
-    let c4 = loop .before in
+    let c5 = loop .before .before in
     let d = adding-done (loop .loop .inv .0) (c2 .next-of .ensures) (c .enum-told .given .1) in
-    (d .0 ∙ along-contents _ _ _ _ _ (c4 .contents .ensures), (d .1 .0, (d .1 .1, loop .loop .inv .1 .minded)))
+    (d .0 ∙ along-contents _ _ _ _ _ (c5 .contents .ensures), (d .1 .0, (d .1 .1, loop .loop .inv .1 .minded)))
 
 initializer-requires : tie.Need-initializer-requires Inv-loop μ-loop
 initializer-requires c κs =
     let c3 = c .before .before .before in
     let c5 = c3 .before .before in
     let loop = c5 .before in
-    let c7 = loop .before in
-    let entry = c7 .before .before .before .before in (
+    let c8 = loop .before .before in
+    let entry = c8 .before .before .before .before in (
       entry .pre .0,
       (
-        adding-walked (loop .loop .inv .0) (c5 .next-of .ensures) (c3 .sought .given .1) (entry .pre .1 .0) (c7 .contents .ensures) graph-initializer,
+        adding-walked (loop .loop .inv .0) (c5 .next-of .ensures) (c3 .sought .given .1) (entry .pre .1 .0) (c8 .contents .ensures) graph-initializer,
         (
           adding-countable (loop .loop .inv .0) (c5 .next-of .ensures) (c3 .sought .given .1)
-              (from-contents _ _ _ _ _ (c7 .contents .ensures) (entry .pre .1 .1 .0)),
+              (from-contents _ _ _ _ _ (c8 .contents .ensures) (entry .pre .1 .1 .0)),
           (loop .loop .inv .1 .minded .recalls, (loop .loop .inv .2, lists-found (loop .loop .inv .1) (c5 .next-of .ensures) (c3 .sought .given .1))),
         ),
       ),
@@ -75,10 +76,10 @@ returns-2 c =
     let c10 = c6 .before .before .before .before in
     let c12 = c10 .before .before in
     let loop = c12 .before in
-    let c14 = loop .before in
+    let c15 = loop .before .before in
     let d = adding-stops (loop .loop .inv .0) (c12 .next-of .ensures) (c10 .sought .given .1) _ (c6 .initializer .ensures .0)
     (c6 .initializer .ensures .1 .0) (c6 .initializer .ensures .1 .1 .0) (c .enum-told2 .given .1) in (
-      d .0 ∙ along-contents _ _ _ _ _ (c14 .contents .ensures),
+      d .0 ∙ along-contents _ _ _ _ _ (c15 .contents .ensures),
       (
         d .1 .0,
         (
@@ -116,7 +117,7 @@ list-requires : tie.Need-list-requires Inv-loop μ-loop
 list-requires c κs =
     let c8 = c .before .before .before .before .before .before .before .before in
     let loop = c8 .before .before .before .before .before .before .before in
-    let entry = loop .before .before .before .before .before in
+    let entry = loop .before .before .before .before .before .before in
     (c8 .initializer .ensures .1 .1 .1 .recalls .both, (minded-recalled (lists-fits (loop .loop .inv .1)) (c8 .initializer .ensures .1 .1 .1) .held .fits, entry .pre .0))
 
 pub initializers-spec : {M : Type 1} → statement M
@@ -125,6 +126,7 @@ initializers-spec =
     (tie.spec
     Inv-loop
     μ-loop
+    (λ c κs. search needs)
     (λ c κs. search needs)
     loop-holds
     (λ c κs. search needs)

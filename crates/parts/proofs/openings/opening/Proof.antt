@@ -1,5 +1,5 @@
 use Rattle.scope.proofs.RecallLaws.{minded-none, minded-then, minded-recalled}
-use Rattle.parts.proofs.OpeningLaws.{inputs-defaultable, opening-refused, opening-stops, opening-goes, opening-fits, opening-used}
+use Rattle.parts.proofs.OpeningLaws.{inputs-defaultable, opening-refused, opening-stops, opening-goes, opening-fits}
 use Rattle.parts.proofs.OpeningLaws.{opening-inputs, opening-values}
 use borrow.Author.Needs.{needs}
 use Rattle.parts.proofs.openings.opening.Statement.{statement}
@@ -16,7 +16,7 @@ returns c =
     let c3 = c2 .before in
     let entry = c3 .before .before .before .before in
     let d = opening-refused _ _ _ _ _ _ (c3 .graph-rules .ensures) (c2 .counting .ensures) (c .enum-told .given .1) in
-    (d .0, (d .1 .0, (d .1 .1, minded-none (entry .pre .1 .1 .1 .0) (entry .pre .1 .1 .1 .1 .0))))
+    (d .0, (d .1 .0, (d .1 .1, minded-none (entry .pre .1 .1 .1 .0) (entry .pre .1 .1 .1 .1))))
 
 inputs-requires : tie.Need-inputs-requires
 inputs-requires c κs =
@@ -36,7 +36,7 @@ returns-2 c =
     let entry = c13 .before .before .before .before in
     let d = opening-stops _ _ _ _ _ _ (c13 .graph-rules .ensures) (c12 .counting .ensures) (c10 .named .given .1) _ _
     (c6 .inputs .ensures .0) (c6 .inputs .ensures .1 .0) (c6 .inputs .ensures .1 .1 .0) (c .enum-told2 .given .1) in
-    (d .0, (d .1 .0, (d .1 .1, minded-recalled (entry .pre .1 .1 .1 .1 .0) (c6 .inputs .ensures .1 .1 .1))))
+    (d .0, (d .1 .0, (d .1 .1, minded-recalled (entry .pre .1 .1 .1 .1) (c6 .inputs .ensures .1 .1 .1))))
 
 initializers-requires : tie.Need-initializers-requires
 initializers-requires c κs =
@@ -56,10 +56,8 @@ initializers-requires c κs =
           (
             c9 .inputs .ensures .1 .1 .1 .recalls,
             (
-              inputs-defaultable _ (entry .args .cells .now) _ (c13 .named .given .0 .0) _ _ _ (c9 .inputs .ensures .0) (c3 .step .given .1)
-                  (opening-used _ _ _ _ (entry .pre .1 .1 .0) _ (c16 .graph-rules .ensures) (c15 .counting .ensures)
-                  (c13 .named .given .1) (entry .pre .1 .1 .1 .1 .1)),
-              minded-recalled (entry .pre .1 .1 .1 .1 .0) (c9 .inputs .ensures .1 .1 .1) .held .fits,
+              inputs-defaultable _ (entry .args .cells .now) _ (c13 .named .given .0 .0) _ _ _ (c9 .inputs .ensures .0) (c3 .step .given .1),
+              minded-recalled (entry .pre .1 .1 .1 .1) (c9 .inputs .ensures .1 .1 .1) .held .fits,
             ),
           ),
         ),
@@ -79,7 +77,7 @@ returns-3 c =
     (c14 .inputs .ensures .0) (c14 .inputs .ensures .1 .0) (c14 .inputs .ensures .1 .1 .0) (c8 .step .given .1) _ _
     (c4 .initializers .ensures .0) (c4 .initializers .ensures .1 .0) (c4 .initializers .ensures .1 .1 .0) in (
       d .0,
-      (d .1 .0, (d .1 .1, minded-then (minded-recalled (entry .pre .1 .1 .1 .1 .0) (c14 .inputs .ensures .1 .1 .1)) (c4 .initializers .ensures .1 .1 .1))),
+      (d .1 .0, (d .1 .1, minded-then (minded-recalled (entry .pre .1 .1 .1 .1) (c14 .inputs .ensures .1 .1 .1)) (c4 .initializers .ensures .1 .1 .1))),
     )
 
 pub opening-spec : {M : Type 1} → statement M

@@ -10,13 +10,13 @@ use Rattle.cycle.proofs.graphs.node.Reads as node
 use Rattle.cycle.proofs.graphs.node.Kinds as node-kinds
 
 abbrev pub μ-attribute : Measures 3 attribute-kinds.ps ℕ
-μ-attribute κs a = a .1 .1 .1 .1 .1 .1 .1 .1 .0 .next - a .1 .1 .1 .1 .1 .1 .1 .1 .0 .start
+μ-attribute κs a = a .1 .1 .1 .1 .1 .1 .1 .1 .1 .0 .next - a .1 .1 .1 .1 .1 .1 .1 .1 .1 .0 .start
 
 abbrev pub μ-graph : Measures 3 graph-kinds.ps ℕ
 μ-graph κs a = a .1 .1 .1 .1 .1 .1 .1 .1 .0 .next - a .1 .1 .1 .1 .1 .1 .1 .1 .0 .start
 
 abbrev pub μ-node : Measures 3 node-kinds.ps ℕ
-μ-node κs a = a .1 .1 .1 .1 .1 .1 .1 .1 .0 .next - a .1 .1 .1 .1 .1 .1 .1 .1 .0 .start
+μ-node κs a = a .1 .1 .1 .1 .1 .1 .1 .1 .1 .0 .next - a .1 .1 .1 .1 .1 .1 .1 .1 .1 .0 .start
 
 abbrev pub attribute-at : ℕ → In 3 attribute-kinds.ps
 attribute-at t = and 3 attribute-kinds.ps (is 3 attribute-kinds.ps μ-attribute t) attribute.Pre

@@ -50,15 +50,15 @@ node-claims t = (
 )
 
 abbrev pub node-Inv-loop : node-lts.InvT-loop
-node-Inv-loop model cells₀ extra₀ ix left f c₀ q₀ own₀ cells extra c q own =
+node-Inv-loop model cells₀ extra₀ ix left s f c₀ q₀ own₀ cells extra c q own =
     Going model Node·attribute (f .next) (f .start) (attributeNames model (namesIn model left false))
-    (λ size. attributeAgain model (fills size) (Nested model left size) f)
-    (each (attributeAgain model (fills (length cells₀)) (Nested model left (length cells₀)) f) (walkIn model cells₀ q₀)
+    (λ size. attributeAgain model (fills size) (Nested model left s size) f)
+    (each (attributeAgain model (fills (length cells₀)) (Nested model left s (length cells₀)) f) (walkIn model cells₀ q₀)
     (allFrom model Node·attribute (f .next) (f .start))) cells₀ q₀ cells q c
     × Lists model ix (own₀ .top) Node·attribute Attribute·name f extra₀ cells extra own c × Minds model ix (own₀ .top) cells extra
 
 abbrev pub node-μ-loop : node-lts.MeasureT-loop
-node-μ-loop model cells₀ extra₀ ix left f c₀ q₀ own₀ cells extra c q own = f .next - c .at
+node-μ-loop model cells₀ extra₀ ix left s f c₀ q₀ own₀ cells extra c q own = f .next - c .at
 
 pub node-node-rules-requires : (t : ℕ) → node-lts.Need-node-rules-requires (node-claims t) (node-at t) node.Post node-Inv-loop node-μ-loop
 node-node-rules-requires t c κs =
@@ -75,7 +75,7 @@ node-returns t c =
     let c2 = c .before .before in
     let c3 = c2 .before in
     let entry = c3 .before .before .before .before .before .before in
-    promised-and (node-stops _ _ _ _ _ _ _ (c3 .node-rules .ensures) (c2 .counting .ensures) (c .enum-told .given .1))
+    promised-and (node-stops _ _ _ _ _ _ _ _ (c3 .node-rules .ensures) (c2 .counting .ensures) (c .enum-told .given .1))
     (minded-none (entry .pre .1 .1 .0 .recalls) (entry .pre .1 .1 .0 .fits))
 
 pub node-loop-holds : (t : ℕ) → node-lts.Need-loop-holds (node-claims t) (node-at t) node.Post node-Inv-loop node-μ-loop
@@ -96,7 +96,7 @@ node-closing-requires t c κs =
     let c11 = c10 .before in
     let entry = c11 .before .before .before .before .before .before in
     let first = node-first _ _ _ _ _ _ (c11 .node-rules .ensures) (c10 .counting .ensures) (c8 .headed .given .1) in
-    let room = closing-countable _ _ _ _ _ _ _ (c11 .node-rules .ensures) (c10 .counting .ensures) (c8 .headed .given .1)
+    let room = closing-countable _ _ _ _ _ _ _ _ (c11 .node-rules .ensures) (c10 .counting .ensures) (c8 .headed .given .1)
     (loop .loop .inv .0) (entry .pre .1 .1 .1 .1) in
     let low = node-low (loop .loop .inv .0) (enters-first {first = c8 .headed .given .0 .0} (first .0) (first .1) (entry .pre .1 .0)) in
     (entry .pre .1 .0 .short, (entry .pre .1 .0 .walked, (low, (room, loop .loop .inv .1 .minded .recalls))))
@@ -123,7 +123,7 @@ node-returns-2 t c =
     let c15 = c13 .before .before in
     let c16 = c15 .before in
     let entry = c16 .before .before .before .before .before .before in
-    promised-and (attributes-done _ _ _ _ _ _ _ (c16 .node-rules .ensures) (c15 .counting .ensures) (c13 .headed .given .1)
+    promised-and (attributes-done _ _ _ _ _ _ _ _ (c16 .node-rules .ensures) (c15 .counting .ensures) (c13 .headed .given .1)
     (loop .loop .inv .0) (c9 .next-of .ensures) (entry .pre .1 .0) (c7 .enum-told2 .given .1) _ (c4 .closing .ensures .0)
     (c4 .closing .ensures .1 .0) (c4 .closing .ensures .1 .1 .0))
     (minded-then (loop .loop .inv .1 .minded) (minded-recalled (loop .loop .inv .1 .minded .held .fits) (c4 .closing .ensures .1 .1 .1)))
@@ -138,7 +138,7 @@ node-attribute-requires t c κs =
     let c12 = c11 .before in
     let entry = c12 .before .before .before .before .before .before in
     let first = node-first _ _ _ _ _ _ (c12 .node-rules .ensures) (c11 .counting .ensures) (c9 .headed .given .1) in
-    let room = attributes-countable _ _ _ _ _ _ _ (c12 .node-rules .ensures) (c11 .counting .ensures) (c9 .headed .given .1) (entry .pre .1 .1 .1 .1) in (
+    let room = attributes-countable _ _ (entry .args .s) _ _ _ _ _ (c12 .node-rules .ensures) (c11 .counting .ensures) (c9 .headed .given .1) (entry .pre .1 .1 .1 .1) in (
       going-shorter (loop .loop .inv .0) (c5 .next-of .ensures) (c3 .sought .given .1) (entry .pre .0),
       (
         going-enters (loop .loop .inv .0) (c5 .next-of .ensures) (c3 .sought .given .1) (entry .pre .1 .0 .short) (entry .pre .1 .0 .walked)
@@ -174,7 +174,7 @@ node-returns-3 t c =
     let c16 = loop .before .before .before in
     let c18 = c16 .before .before in
     let c19 = c18 .before in
-    promised-and (attributes-stop _ _ _ _ _ _ _ (c19 .node-rules .ensures) (c18 .counting .ensures) (c16 .headed .given .1)
+    promised-and (attributes-stop _ _ _ _ _ _ _ _ (c19 .node-rules .ensures) (c18 .counting .ensures) (c16 .headed .given .1)
     (loop .loop .inv .0) (c12 .next-of .ensures) (c10 .sought .given .1) _ (c6 .attribute .ensures .0) (c6 .attribute .ensures .1 .0)
     (c6 .attribute .ensures .1 .1 .1 .0) (c .enum-told3 .given .1))
     (minded-then (loop .loop .inv .1 .minded) (minded-fewer (loop .loop .inv .1 .above) (c6 .attribute .ensures .1 .1 .1 .1)))
@@ -202,7 +202,7 @@ node-loop-again t c =
     let c17 = c15 .before .before in
     let loop = c17 .before in (
       going-goes (loop .loop .inv .0) (c17 .next-of .ensures) (c15 .sought .given .1) _ (c11 .attribute .ensures .0) (c11 .attribute .ensures .1 .0)
-          (c11 .attribute .ensures .1 .1 .1 .0) (attributes-count _ _ _) (c11 .attribute .ensures .1 .1 .0) (c5 .step .given .1),
+          (c11 .attribute .ensures .1 .1 .1 .0) (attributes-count _ _ _ _) (c11 .attribute .ensures .1 .1 .0) (c5 .step .given .1),
       lists-next (loop .loop .inv .1) (c17 .next-of .ensures) (c15 .sought .given .1) (c11 .attribute .ensures .1 .1 .1 .1) (c2 .list .ensures),
       lists-minds (loop .loop .inv .1) (c17 .next-of .ensures) (c15 .sought .given .1) (loop .loop .inv .2) (c11 .attribute .ensures .1 .1 .1 .1)
           (c2 .list .ensures),
