@@ -83,7 +83,7 @@ module _ (model : Bytes) (full : ℕ → Bool) (s : Surroundings) (graph f : Fie
     bears : own ≡ (takesDefaults C && member (text model g) Inputs)
     bears = eo ∙ ap (λ (y : Bytes). takesDefaults C && member y Inputs) t
 
-    -- b is whether it must be one
+    -- b is whether it is refused because it is none
     module _ {b : Bool} (eb : b ≡ (atIR3 C && not own)) where
       lacks : {v : Bool} → b ≡ v → lacksInput C Inputs (text model g) ≡ v
       unfolding lacksInput takesDefaults
@@ -97,13 +97,15 @@ module _ (model : Bytes) (full : ℕ → Bool) (s : Surroundings) (graph f : Fie
       unfolding declaring nameIn
       kept k = sym (when-kept 43 _ _ (lacks k))
 
-      -- d is whether it is the first such
+      -- d is whether it is a default
       module _ (k : b ≡ false) {y : Bytes} (u : y ≡ text model g) {d : Bool} (ed : d ≡ (own && not (member y (Before model graph f)))) where
         default-by : {v : Bool} → d ≡ v → elim v [ true ↦ pass w | false ↦ define full w (nameIn model g) ] ≡ Named w (nameIn model g)
         unfolding defaultOrNew isDefault nameIn
         default-by i =
             ap (λ (v : Bool). elim v as (λ _. Judged Walk) [ true ↦ pass w | false ↦ define full w (nameIn model g) ])
-            (sym i ∙ ed ∙ ap (λ (z : Bytes). own && not (member z (Before model graph f))) u ∙ ap (λ (o : Bool). o && not (member (text model g) (Before model graph f))) bears)
+            (sym i ∙ ed
+            ∙ ap (λ (z : Bytes). own && not (member z (Before model graph f))) u
+            ∙ ap (λ (o : Bool). o && not (member (text model g) (Before model graph f))) bears)
             ∙ kept k
 
         pub declare-default : d ≡ true → pass w ≡ Named w (nameIn model g)

@@ -77,7 +77,7 @@ struct Inputs {
     inner: usize,
 }
 
-// Does it bear the name of an input of its own graph? Where no initializer is a default, nobody asks.
+// Does it bear the name of an input of its own graph? Where no initializer can be a default it makes no difference, and none is looked for.
 fn bears_input(
     model: &[u8],
     cells: &[u32],

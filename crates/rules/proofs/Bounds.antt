@@ -18,7 +18,7 @@ use Rattle.wire.proofs.Reading.{Fits}
 use Rattle.wire.proofs.Fields.{fields-done, message-ordered, keep-ordered, ordered-all, all-of-ordered}
 use Rattle.schema.specs.Numbers.{Model·graph, Graph·node, Graph·initializer, Graph·input, Graph·output, Node·input, Node·output, Node·attribute}
 use Rattle.schema.specs.Numbers.{Tensor·name, ValueInfo·name}
-use Rattle.rules.specs.Names.{Name, nameOf, nameIn, bodiesOf, inputsOf, bodiesIn}
+use Rattle.rules.specs.Names.{Name, nameOf, nameIn, bodiesOf, bodiesIn}
 use Rattle.rules.specs.Runner.{Action, binds, reads, visits, unlessEmpty, initializers, nodeScript, waitingIn, script}
 use Rattle.rules.specs.Runner.{Run, Ran, begin, chosen, choose, times, perform, runGraph, runTo, run}
 use Rattle.rules.specs.Count.{nodesIn, nodesTo, nodeCount, odds, attributeNames, nodeNames, graphNames, namesIn, oddTo, oddIn}

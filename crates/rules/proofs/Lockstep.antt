@@ -7,7 +7,7 @@ use mathlib.Core.Option.{Option, none, some}
 use native.Mathlib.Nat.{add-suc}
 use lib.ListN.{length}
 use lib.Dec.{eqb}
-use Rattle.varint.specs.Outcome.{Outcome, pass, fail, _>>=_, _>>_, each, Judged, Rule, refuse_at:_when:_, refuse_at:_first:_when:_}
+use Rattle.varint.specs.Outcome.{Outcome, pass, _>>=_, _>>_, each, Judged, Rule, refuse_at:_when:_, refuse_at:_first:_when:_}
 use Rattle.wire.specs.declared.Field.{Field}
 use Rattle.varint.specs.Lists.{isEmpty, present, contains, keep}
 use Rattle.varint.specs.Bytes.{Bytes, same, member}
@@ -26,7 +26,7 @@ use Rattle.rules.specs.Runner.{binds, reads, visits, unlessEmpty, initia
 use Rattle.rules.specs.Runner.{find, withBound, withRead, bind, read, unchosen, choose, forget, perform, runGraph}
 use Rattle.rules.specs.Count.{odds}
 use Rattle.rules.proofs.Rules.{Adds, Type·refusals, inType, main-type-tells, nodeName-tells}
-use Rattle.rules.proofs.Matching.{stopOf, Matches, Quiet, told-among, quiet-rule, bind-matches, after-matches, then-matches}
+use Rattle.rules.proofs.Matching.{stopOf, Matches, told-among, quiet-rule, bind-matches, after-matches, then-matches}
 use Rattle.rules.proofs.Matching.{told-matches, told-passes, quiet-then, quiet-seq, each-matches, bind-assoc, bind-pass, each-append, each-map, each-flat}
 use Rattle.rules.proofs.Visits.{visit-once}
 use Rattle.rules.proofs.Defaults.{Agree, agree-first, agree-default, agree-new}

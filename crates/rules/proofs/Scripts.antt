@@ -16,7 +16,7 @@ use Rattle.varint.proofs.Lists.{true-T, All, all-append, all-flat, all-mapped}
 use Rattle.varint.proofs.Tells.{Any, any-all}
 use Rattle.wire.proofs.Fields.{message-ordered, keep-ordered, all-of-ordered, ordered-flat}
 use Rattle.schema.specs.Numbers.{Graph·node, Graph·initializer, Graph·input, Graph·output, Node·input, Node·output, Node·attribute, Tensor·name, ValueInfo·name}
-use Rattle.rules.specs.Names.{Name, nameOf, nameIn, bodiesOf, inputsOf, bodiesIn}
+use Rattle.rules.specs.Names.{Name, nameOf, nameIn, bodiesOf, bodiesIn}
 use Rattle.rules.specs.Runner.{Action, binds, reads, visits, unlessEmpty, initializers, nodeScript, waitingIn, script}
 
 -- ---- places
