@@ -21,11 +21,12 @@ atIR3 c = eqb (c .ir-version) 3
 unfoldable pub lacksInput : Context → (inputs : List Bytes) → Bytes → Bool
 lacksInput c inputs x = atIR3 c && not (member x inputs)
 
--- "In the main graph"; at IR 3 "a nested graph" too.
+-- "In the main graph it may bear the name of an input, ..". "In a nested graph it may not (IR 4 and later)." At IR 3 "a nested graph may
+-- give its own input a default once".
 unfoldable pub takesDefaults : Context → Bool
 takesDefaults c = c .main || atIR3 c
 
--- "it may bear the name of an input, once: that is a default, and adds no name"
+-- ".. the name of an input, once: that is a default, and adds no name."
 unfoldable pub isDefault : Context → (inputs earlier : List Bytes) → Bytes → Bool
 isDefault c inputs earlier x = takesDefaults c && member x inputs && not (member x earlier)
 

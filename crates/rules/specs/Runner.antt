@@ -46,7 +46,8 @@ module _ (model : Bytes) where
       ++ map visits (bodiesIn model f)
       ++ flatMap (λ o. unlessEmpty binds (nameIn model o)) (allOf Node·output m)
 
-  -- Of which inputs: "in the main graph" of all, and of "a nested default .. at IR 3 only".
+  -- The inputs that wait for one: "in the main graph, for each input"; "a nested default (for each input of that graph ..) as binding
+  -- nothing new at IR 3 only", by the ir_version that the model has, wherever it stands.
   unfoldable pub waitingIn : (main : Bool) → (graph : Message) → List Bytes
   waitingIn main g = elim (main || eqb (numberOf Model·ir-version (message model (whole model))) 3) [ true ↦ inputsOf model g | false ↦ [] ]
 
