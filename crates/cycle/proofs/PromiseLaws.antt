@@ -34,11 +34,6 @@ pub record Promised (model : Bytes) (o : Judged Walk) (cells later : List ℕ) (
   pub counts : counted f p r
   pub kept : Keeps (p .used) cells later
 
-pub promised : {model : Bytes} {o : Judged Walk} {cells later : List ℕ} {p : Progress} {f : Field} {r : Step}
-    → Promised model o cells later p f r
-    → (stepSays model later r ≡ o) × (grows p r × (counted f p r × Keeps (p .used) cells later))
-promised a = (a .answer, (a .grown, (a .counts, a .kept)))
-
 -- with one thing more
 pub promised-and : {model : Bytes} {o : Judged Walk} {cells later : List ℕ} {p : Progress} {f : Field} {r : Step} {A : Type 0}
     → Promised model o cells later p f r → A
