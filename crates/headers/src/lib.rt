@@ -13,5 +13,4 @@ pub use imports::is_imported;
 pub use imports::ruling_of;
 pub use wholes::has;
 pub use wholes::model_outline;
-pub use wholes::number_from;
 pub use wholes::whole;

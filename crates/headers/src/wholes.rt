@@ -50,14 +50,11 @@ pub(crate) fn has_from(model: &[u8], m: Field, number: u64, at: usize) -> bool
     }
 }
 
-pub fn number_from(model: &[u8], m: Field, number: u64, at: usize) -> u64
+pub(crate) fn number_from(model: &[u8], m: Field, number: u64, at: usize) -> u64
     requires { ⌜ Starts (now model) m number at ⌝ }
     ensures { λ r. ⌜ r ≡ numberOf number (message (now (model .entry)) m) ⌝ }
 {
-    match m.first_from(model, number, at) {
-        Sought::Found(f, _) => f.value,
-        Sought::Missing => 0,
-    }
+    m.first_from(model, number, at).value()
 }
 
 // One reading of the model's own fields, which may be many.

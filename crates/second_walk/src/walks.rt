@@ -17,7 +17,6 @@ use cycle::graph;
 use headers::Heading;
 use headers::header;
 use headers::model_outline;
-use headers::number_from;
 use headers::ruling_of;
 use headers::whole;
 use messages::Surroundings;
@@ -82,7 +81,7 @@ pub fn second_walk(
     };
     let around = Surroundings {
         main: true,
-        version: number_from(model, m, MODEL_IR_VERSION, o.first),
+        version: m.first_from(model, MODEL_IR_VERSION, o.first).value(),
     };
     match m.first_from(model, MODEL_GRAPH, o.second) {
         Sought::Missing => stopped(Ruling::NO_GRAPH, m.place),

@@ -7,7 +7,7 @@ use Rattle.varint.specs.Outcome.{pass}
 use Rattle.varint.specs.Bytes.{Bytes}
 use Rattle.wire.specs.Wire.{field}
 use Rattle.wire.specs.Message.{allOf, firstOf, numberOf, placeOf, text, bytesOf, message}
-use Rattle.wire.specs.Answers.{soughtSays, contentsOf, after, foundIn, soughtIn}
+use Rattle.wire.specs.Answers.{soughtSays, valueIn, contentsOf, after, foundIn, soughtIn}
 use Rattle.wire.specs.declared.Field.{Field}
 use Rattle.wire.specs.declared.Cursor.{Cursor}
 use Rattle.wire.specs.declared.Sought.{Sought}
@@ -25,6 +25,11 @@ unfolding foundIn after without
 without-cursor end none = refl
 without-cursor end (some g) = refl
 
+value-without : (r : Sought) → valueIn r ≡ elim (without (soughtSays r)) [ none ↦ 0 | some g ↦ g .value ]
+unfolding valueIn soughtSays without
+value-without (sought.Found g c) = refl
+value-without sought.Missing = refl
+
 module _ (s : Bytes) (number : ℕ) (f : Field) where
   pub found-first : (r : Sought) {c : Cursor} → c ≡ contentsOf f → soughtSays r ≡ soughtIn s number (c .end) (c .at)
       → soughtSays r ≡ foundIn (f .next) (firstOf number (message s f))
@@ -35,14 +40,14 @@ module _ (s : Bytes) (number : ℕ) (f : Field) where
     told : {a : Sought} → r ≡ a → without (soughtSays a) ≡ firstOf number (message s f)
     told k = ap without (says soughtSays e k) ∙ without-cursor _ _
 
+    pub number-in : valueIn r ≡ numberOf number (message s f)
+    unfolding numberOf
+    number-in = value-without r ∙ ap (λ (o : Option Field). elim o [ none ↦ 0 | some g ↦ g .value ]) (told refl)
+
     module _ (k : r ≡ sought.Missing) where
       pub missing : none ≡ firstOf number (message s f)
       unfolding soughtSays without
       missing = told k
-
-      pub number-missing : 0 ≡ numberOf number (message s f)
-      unfolding numberOf
-      number-missing = ap (λ (o : Option Field). elim o [ none ↦ 0 | some g ↦ g .value ]) missing
 
       pub place-missing : f .place ≡ placeOf number (message s f)
       unfolding placeOf message
@@ -56,10 +61,6 @@ module _ (s : Bytes) (number : ℕ) (f : Field) where
       pub found : some g ≡ firstOf number (message s f)
       unfolding soughtSays without
       found = told k
-
-      pub number-found : g .value ≡ numberOf number (message s f)
-      unfolding numberOf
-      number-found = ap (λ (o : Option Field). elim o [ none ↦ 0 | some h ↦ h .value ]) found
 
       pub place-found : g .place ≡ placeOf number (message s f)
       unfolding placeOf message

@@ -28,6 +28,11 @@ unfoldable pub soughtSays : Sought → Option (Field × Cursor)
 soughtSays (sought.Found f c) = some (f, c)
 soughtSays sought.Missing = none
 
+-- "An absent number reads as 0": the value in the field that was looked for.
+unfoldable pub valueIn : Sought → ℕ
+valueIn (sought.Found f c) = f .value
+valueIn sought.Missing = 0
+
 -- A cursor at the start of the message that a field holds.
 unfoldable pub contentsOf : Field → Cursor
 contentsOf f = record { at = f .start; end = f .next }

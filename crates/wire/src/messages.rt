@@ -1,11 +1,22 @@
 // The message that a field holds, its fields by number. "An absent number reads as 0, absent bytes as empty."
 ghost use mathlib.Core.Path.{_≡_};
 ghost use Rattle.wire.specs.Message.{firstOf, numberOf, placeOf, text, bytesOf, message};
-ghost use Rattle.wire.specs.Answers.{contentsOf, soughtSays, foundIn};
+ghost use Rattle.wire.specs.Answers.{contentsOf, soughtSays, valueIn, foundIn};
 use crate::Cursor;
 use crate::Field;
 use crate::Sought;
 use varint::between;
+
+impl Sought {
+    pub fn value(self) -> u64
+        ensures { λ r. ⌜ r ≡ valueIn self ⌝ }
+    {
+        match self {
+            Sought::Found(f, _) => f.value,
+            Sought::Missing => 0,
+        }
+    }
+}
 
 impl Field {
     // The message that the field holds, from its start to its end.
@@ -36,10 +47,7 @@ impl Field {
     pub fn number_of(self, s: &[u8], number: u64) -> u64
         ensures { λ r. ⌜ r ≡ numberOf number (message (now (s .entry)) self) ⌝ }
     {
-        match self.first_of(s, number) {
-            Sought::Found(f, _) => f.value,
-            Sought::Missing => 0,
-        }
+        self.first_of(s, number).value()
     }
 
     // "the first tag byte of the field at fault; for something absent, the tag of the message that lacks it"

@@ -1,13 +1,11 @@
-use Rattle.wire.proofs.MessageLaws.{number-found, number-missing}
+use mathlib.Core.Path.{_∙_}
+use Rattle.wire.proofs.MessageLaws.{number-in}
 use borrow.Author.Needs.{needs}
 use Rattle.wire.proofs.Field.number_of.Statement.{statement}
 use Rattle.wire.proofs.Field.number_of.Tie as tie
 
 returns : tie.Need-returns
-returns c = number-found _ _ _ _ (c .before .before .before .first-of .ensures) (c .before .f .given .1)
-
-returns-2 : tie.Need-returns-2
-returns-2 c = number-missing _ _ _ _ (c .before .before .first-of .ensures) (c .enum-told .given .1)
+returns c = c .value .ensures ∙ number-in _ _ _ _ (c .before .first-of .ensures)
 
 pub number-of-spec : {M : Type 1} → statement M
-number-of-spec = tie.close (tie.spec (λ c κs. search needs) (λ c. search needs) (λ c. search needs) returns returns-2)
+number-of-spec = tie.close (tie.spec (λ c κs. search needs) (λ c κs. search needs) returns)
