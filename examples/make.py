@@ -7,7 +7,7 @@ import sys
 from pathlib import Path
 
 FLOAT, INT64, BOOL = 1, 7, 9  # data types
-INT, GRAPH, INTS = 2, 5, 7  # attribute types
+A_FLOAT, INT, GRAPH, INTS = 1, 2, 5, 7  # attribute types
 
 
 def varint(value):
@@ -35,12 +35,17 @@ def part(field, contents):
     return varint(field << 3 | 2) + varint(len(contents)) + contents
 
 
-def imported(domain="", version=13):
-    return part(8, (part(1, domain) if domain else b"") + number(2, version))
+def imported(domain="", version=13, field=8):
+    return part(field, (part(1, domain) if domain else b"") + number(2, version))
 
 
-def model(graph, ir_version=8, imports=imported(), more=b""):
-    return number(1, ir_version) + part(2, "examples") + part(7, graph) + imports + more
+def used(domain="", version=13):
+    """An import of a function."""
+    return imported(domain, version, field=9)
+
+
+def model(graph, *functions, ir_version=8, imports=imported(), more=b""):
+    return number(1, ir_version) + part(2, "examples") + part(7, graph) + imports + b"".join(functions) + more
 
 
 def graph(name, *fields):
@@ -80,15 +85,37 @@ def too_short(name):
     return part(5, number(2, FLOAT) + part(8, name) + varint(9 << 3 | 2) + varint(64) + bytes(16))
 
 
-def node(op_type, inputs, outputs, *attributes, name="", domain=""):
+def node(op_type, inputs, outputs, *attributes, name="", domain="", field=1):
     out = b"".join(part(1, i) for i in inputs) + b"".join(part(2, o) for o in outputs)
     out += (part(3, name) if name else b"") + part(4, op_type)
     out += b"".join(part(5, a) for a in attributes)
-    return part(1, out + (part(7, domain) if domain else b""))
+    return part(field, out + (part(7, domain) if domain else b""))
+
+
+def own_node(op_type, inputs, outputs, *attributes, **more):
+    """A node of a function."""
+    return node(op_type, inputs, outputs, *attributes, field=7, **more)
+
+
+def function(name, *nodes, inputs=("X",), outputs=("Y",), attributes=(), defaults=(), imports=used(), domain="", overload=""):
+    out = part(1, name) + b"".join(part(4, i) for i in inputs) + b"".join(part(5, o) for o in outputs)
+    out += b"".join(part(6, a) for a in attributes) + b"".join(nodes) + imports
+    out += (part(10, domain) if domain else b"") + b"".join(part(11, d) for d in defaults)
+    return part(25, out + (part(13, overload) if overload else b""))
 
 
 def integer(name, value):
     return part(1, name) + number(3, value) + number(20, INT)
+
+
+def floating(name):
+    """With the value 0."""
+    return part(1, name) + varint(2 << 3 | 5) + bytes(4) + number(20, A_FLOAT)
+
+
+def reference(name, attribute, kind=INT):
+    """An attribute of a node in a function, with the value that the function's attribute has."""
+    return part(1, name) + part(21, attribute) + number(20, kind)
 
 
 def body(name, inner):
@@ -185,6 +212,44 @@ def defaults_only(own="gain"):
         graph_output("y", dims=(4,))), ir_version=3)
 
 
+def gated(*nodes, attributes=("axis",), defaults=(floating("alpha"),), **more):
+    """A function with an attribute, a default and references to both, one of them in a branch. More names are visible in it than in the
+    main graph."""
+    leaky = branch("leaky", node("LeakyRelu", ["P"], ["L"], reference("alpha", "alpha", A_FLOAT), name="slope"), output="L")
+    plain = branch("plain", node("Identity", ["P"], ["I"]), output="I")
+    nodes = nodes or (
+        own_node("Softmax", ["X"], ["P"], reference("axis", "axis"), name="weigh"),
+        own_node("If", ["use"], ["Y"], body("then_branch", leaky), body("else_branch", plain), name="choose"))
+    return function("GatedSoftmax", *nodes, inputs=("X", "use"), attributes=attributes, defaults=defaults, **more)
+
+
+def calling(*functions, imports=imported()):
+    """A main graph whose one node calls a function. The check asks nothing of a call."""
+    return model(graph(
+        "network",
+        graph_input("x"), initializer("use", BOOL, raw=bytes(1)),
+        node("GatedSoftmax", ["x", "use"], ["y"], integer("axis", 1), name="gate"),
+        graph_output("y")), *functions, ir_version=9, imports=imports)
+
+
+def two_of_one_name(*domains):
+    def root(domain):
+        return function("Magnitude", own_node("Mul", ["X", "X"], ["square"]), own_node("Sqrt", ["square"], ["Y"]), domain=domain)
+
+    main_graph = layer(node("Magnitude", ["x"], ["h"]), node("Magnitude", ["h"], ["y"], domain="ai.onnx.ml"))
+    return model(main_graph, *map(root, domains), imports=imported() + imported("ai.onnx.ml", 3))
+
+
+def overloaded(ir_version):
+    """As exporters name a framework's operators: two overloads of one name."""
+    def add(overload):
+        return function(
+            "aten_add", own_node("Mul", ["other", "other"], ["scaled"]), own_node("Add", ["self.1", "scaled"], ["sum.1"]),
+            inputs=("self.1", "other"), outputs=("sum.1",), overload=overload)
+
+    return model(layer(node("aten_add", ["x", "w"], ["y"])), add("Tensor"), add("Scalar"), ir_version=ir_version)
+
+
 LATIN_1 = "première".encode("latin-1")
 RELU = node("Relu", ["h"], ["y"], name="relu1")
 DENSE = node("MatMul", ["x", "w"], ["h"], name="dense1")
@@ -199,6 +264,9 @@ MODELS = {
         layer(node("Transpose", ["x"], ["y"], part(1, "perm") + part(8, padded(1, 2) + padded(0, 3)) + number(20, INTS)))),
     "ok-classifier": model(
         layer(node("Scaler", ["x"], ["y"], domain="ai.onnx.ml")), imports=imported() + imported("ai.onnx.ml", 3)),
+    "ok-function": calling(gated()),
+    "ok-functions-of-two-domains": two_of_one_name("", "ai.onnx.ml"),
+    "ok-overloads": overloaded(10),
     "01-truncated": model(chain())[:150],
     "01-tensor-too-short": model(layer(too_short("b"), DENSE, RELU)),
     "03-not-a-model": b"<html><body>404 Not Found</body></html>\n",
@@ -213,10 +281,11 @@ MODELS = {
     "10-empty": b"",
     "11-no-graph": number(1, 8) + imported(),
     "12-no-opset": model(chain(), imports=b""),
+    "12-function-without-opset": calling(gated(imports=b"")),
     "13-imported-twice": model(chain(), imports=imported("", 13) + imported("ai.onnx", 13)),
     "14-opset-too-new": model(chain(), imports=imported(version=22)),
     "14-unknown-domain": model(chain(), imports=imported() + imported("com.example", 1)),
-    "15-functions": model(chain(), more=part(25, part(1, "my_function"))),
+    "14-function-opset-too-new": calling(gated(imports=used(version=22))),
     "16-sparse-initializer": model(layer(DENSE, RELU, part(15, b""))),
     "20-graph-without-name": model(chain()[len(part(2, "network")):]),
     "21-not-utf8": model(layer(node("MatMul", ["x", "w"], [LATIN_1]), node("Relu", [LATIN_1], ["y"]))),
@@ -229,17 +298,31 @@ MODELS = {
     "26-bad-data-type": model(layer(initializer("b", data_type=99), DENSE, RELU)),
     "27-node-without-operator": model(layer(node("", ["x"], ["y"], name="nothing"))),
     "28-domain-not-imported": model(layer(node("Scaler", ["x"], ["y"], name="scale", domain="ai.onnx.ml"))),
+    "28-import-of-the-model": calling(
+        gated(own_node("Scaler", ["X"], ["Y"], name="scale", domain="ai.onnx.ml")), imports=imported() + imported("ai.onnx.ml", 3)),
     "29-two-nodes-one-name": model(layer(DENSE, node("Relu", ["h"], ["y"], name="dense1"))),
     "30-undefined": model(layer(DENSE, node("Add", ["h", "bias"], ["y"], name="add1"))),
     "30-wrong-order": model(layer(RELU, DENSE)),
     "30-across-branches": reads_the_other_branch(),
+    "30-outer-name-in-function": model(
+        chain(), function("Copy", own_node("Identity", ["X"], ["Y"])),
+        function("Dense", own_node("MatMul", ["X", "w"], ["Y"], name="dense"))),
     "31-attribute-twice": model(layer(node("Softmax", ["x"], ["y"], integer("axis", 1), integer("axis", 2)))),
     "32-attribute-type": model(layer(node("Softmax", ["x"], ["y"], part(1, "axis") + number(3, 1) + number(20, 1)))),
+    "32-default-graph": calling(gated(defaults=(body("alpha", graph("plain")),))),
     "33-reference": model(layer(node("Softmax", ["x"], ["y"], part(1, "axis") + part(21, "a") + number(20, INT)))),
+    "33-default-reference": calling(gated(defaults=(reference("alpha", "axis", A_FLOAT),))),
+    "33-other-functions-attribute": calling(
+        gated(), function("Softer", own_node("Softmax", ["X"], ["Y"], reference("axis", "axis"), name="weigh"))),
     "34-node-without-output": model(layer(DENSE, RELU, node("Relu", ["h"], [], name="dead"))),
     "35-output-missing": model(layer(DENSE)),
     "37-no-shape": model(chain(inputs=[part(11, part(1, "x") + part(2, part(1, number(1, FLOAT))))])),
     "38-negative-dimension": model(chain(inputs=[graph_input("x", dims=(-1, 4))])),
+    "41-function-twice": two_of_one_name("", "ai.onnx"),
+    "41-overloads-ir-9": overloaded(9),
+    "42-attribute-twice": calling(gated(attributes=("axis", "beta", "axis"))),
+    "42-attribute-and-default": calling(gated(attributes=("axis", "alpha"))),
+    "42-default-twice": calling(gated(defaults=(floating("alpha"), floating("alpha")))),
     "43-initializer-not-input": model(chain(), ir_version=3),
     "43-outer-name": defaults_only(own="decay"),
 }

@@ -1,6 +1,6 @@
 #!/usr/bin/env python3
-"""Says whether C, Rust and Python have the same refusals, number, name and explanation, the same version, as many cells for a name, and
-the same numbers in an answer. Status 1 where not."""
+"""Says whether C, Rust and Python have the same refusals, number, name and explanation, those that the tests look for, the same version, as
+many cells for a name, and the same numbers in an answer. Status 1 where not."""
 
 import ast
 import re
@@ -29,6 +29,12 @@ def of_python():
     """Read and not imported, since an import needs the shared object."""
     tree = ast.parse((PYTHON / "rules.py").read_text())
     return next(ast.literal_eval(item.value) for item in tree.body if isinstance(item, ast.Assign))
+
+
+def of_tests():
+    """The numbers that the comparison must reach, and the index's own."""
+    numbers = re.search(r"REFUSALS: \[u64; \d+\] = \[(.*?)\];", (TESTS / "verdict.rs").read_text(), re.DOTALL)[1]
+    return {65, *map(int, re.findall(r"\d+", numbers))}
 
 
 def versions():
@@ -66,13 +72,15 @@ def main():
     rust, wrong = of_rust(), []
     for language, table in {"C": of_c(), "Python": of_python()}.items():
         wrong += [f"{language}: {table.get(n)}, Rust: {rust.get(n)} for {n}" for n in rust.keys() | table if table.get(n) != rust.get(n)]
+    if rust.keys() != of_tests():
+        wrong.append(f"the tests look for other refusals: {sorted(of_tests() ^ rust.keys())}")
     if len(set(versions().values())) != 1:
         wrong.append(f"versions: {versions()}")
     if len(set(cells().values())) != 1:
         wrong.append(f"cells for a name: {cells()}")
     if len(set(answers().values())) != 1:
         wrong.append(f"an answer: {answers()}")
-    if wrong or len(rust) < 37:
+    if wrong or len(rust) < 38:
         sys.exit("\n".join(["same_rules.py: the bindings differ", *wrong]))
     print(f"{len(rust)} refusals, the version, the cells for a name and an answer's numbers are the same in C, Rust and Python")
 

@@ -17,7 +17,7 @@ extern "C" {
  * `lists`, none is missing. */
 struct onnx_gate_need {
     size_t names; /* how many names are visible together; at most model_length / 3 */
-    size_t lists; /* R of onnx_gate.h: how many names of lists are open at once; at most model_length / 7 */
+    size_t lists; /* R of onnx_gate.h: how many names of lists are open at once; at most model_length / 3 */
 };
 
 /* Counts in one pass over the model, any bytes at all, that skips what tensors hold and allocates nothing. Both are 0 where it sees

@@ -1,4 +1,5 @@
-/* Document 01's sample models through both checks of onnx_gate.h, and the name service. Prints what fails, and how many passed. */
+/* Document 01's sample models, and others, through both checks of onnx_gate.h, and the name service. Prints what fails, and how many
+ * passed. */
 #define _DEFAULT_SOURCE /* MAP_ANONYMOUS, under -std=c99 */
 #include "expect.h"
 #include "onnx_gate.h"
@@ -147,6 +148,7 @@ static const struct sample {
     {BYTES(OF_GRAPH("\x0D", "\x0A\x08\x12\x03\xED\xA0\x80\x22\x01\x58")), BYTES(L), 2, {21, 13, 0, 0, 0, 0}},
     {BYTES(OF_GRAPH("\x0C", "\x0A\x07\x12\x02\xE2\x82\x22\x01\x58")), BYTES(L), 2, {21, 13, 0, 0, 0, 0}},
     {BYTES(OF_GRAPH("\x0E", "\x0A\x09\x12\x04\xF4\x90\x80\x80\x22\x01\x58")), BYTES(L), 2, {21, 13, 0, 0, 0, 0}},
+#include "function_rows.h"
 };
 
 /* The largest size: an initializer first, whose lengths end in these bytes, and last in the graph and in the model what is given. */

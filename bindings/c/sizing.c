@@ -6,15 +6,17 @@
 #define LONG_LISTS 65536 /* a megabyte for their names */
 #define DEEPEST 8     /* graphs in graphs; the library refuses deeper ones before it keeps a name */
 #define LEAST_NAME 3  /* bytes of a field that holds a visible name */
-#define LEAST_ENTRY 7 /* bytes of an import, initializer, named node or attribute; a shorter one is refused, and so the last */
+#define LEAST_ENTRY 7 /* bytes of a function, import, initializer or attribute; a shorter one is refused, and so the last */
 
 /* the messages that hold what is counted */
-enum message { MODEL, GRAPH, NODE, ATTRIBUTE };
+enum message { MODEL, FUNCTION, GRAPH, NODE, ATTRIBUTE };
 #define WHERE(message, number) ((message) << 8 | (number))
 
 struct count {
     const uint8_t *model;
-    struct onnx_gate_need need;
+    size_t outside;             /* imports and functions of the model: their lists stay open */
+    struct onnx_gate_need open; /* of the graph or function that is counted */
+    struct onnx_gate_need most; /* of those before it */
 };
 
 struct field {
@@ -69,34 +71,75 @@ static int read_field(const uint8_t *model, size_t *at, size_t end, struct field
 
 static int count_message(struct count *count, enum message message, size_t at, size_t end, int depth);
 
-/* Adds what a field of a message holds; 0 where the library refuses it. `depth` is that of the graph around it. */
-static int count_field(struct count *count, enum message message, const struct field *field, int depth)
+static size_t most(size_t one, size_t other)
+{
+    return one > other ? one : other;
+}
+
+/* The main graph or a function. Each begins with no names, and with no lists but those of the model. */
+static int count_alone(struct count *count, enum message message, const struct field *field)
+{
+    struct onnx_gate_need nothing = {0, 0};
+    count->open = nothing;
+    if (!count_message(count, message, field->start, field->end, 1))
+        return 0;
+    count->most.names = most(count->most.names, count->open.names);
+    count->most.lists = most(count->most.lists, count->open.lists);
+    return 1;
+}
+
+static int where(enum message message, const struct field *field)
+{
+    return field->number < 256 ? (int)WHERE(message, field->number) : 0;
+}
+
+/* Adds the name that a field holds, or that its message has in a list. */
+static void add_name(struct count *count, enum message message, const struct field *field)
 {
     int named = field->start != field->end, entry = field->bytes >= LEAST_ENTRY;
-    switch (field->number < 256 ? WHERE(message, (int)field->number) : 0) {
+    switch (where(message, field)) {
+    case WHERE(MODEL, 8):
+    case WHERE(MODEL, 25):
+        count->outside += entry;
+        break;
+    case WHERE(FUNCTION, 9):
+    case WHERE(FUNCTION, 11):
+    case WHERE(NODE, 5):
+        count->open.lists += entry;
+        break;
+    case WHERE(FUNCTION, 6):
+    case WHERE(NODE, 3):
+        count->open.lists += named;
+        break;
+    case WHERE(GRAPH, 5): /* those of a body are a list at IR version 3 only, and count at every version */
+        count->open.names++;
+        count->open.lists += entry;
+        break;
+    case WHERE(FUNCTION, 4):
+    case WHERE(GRAPH, 11):
+    case WHERE(NODE, 2):
+        count->open.names += named;
+        break;
+    }
+}
+
+/* Adds what a field of a message holds; 0 where the library refuses it. `depth` is that of the graph or function around it. */
+static int count_field(struct count *count, enum message message, const struct field *field, int depth)
+{
+    add_name(count, message, field);
+    switch (where(message, field)) {
     case WHERE(MODEL, 7):
-    case WHERE(ATTRIBUTE, 6):
-    case WHERE(ATTRIBUTE, 11):
-        return depth < DEEPEST && count_message(count, GRAPH, field->start, field->end, depth + 1);
+        return count_alone(count, GRAPH, field);
+    case WHERE(MODEL, 25):
+        return count_alone(count, FUNCTION, field);
+    case WHERE(FUNCTION, 7):
     case WHERE(GRAPH, 1):
         return count_message(count, NODE, field->start, field->end, depth);
     case WHERE(NODE, 5):
-        count->need.lists += entry;
         return count_message(count, ATTRIBUTE, field->start, field->end, depth);
-    case WHERE(GRAPH, 5): /* those of a body are a list at IR version 3 only, and count at every version */
-        count->need.names++;
-        count->need.lists += entry;
-        return 1;
-    case WHERE(MODEL, 8):
-        count->need.lists += entry;
-        return 1;
-    case WHERE(NODE, 3):
-        count->need.lists += named;
-        return 1;
-    case WHERE(GRAPH, 11):
-    case WHERE(NODE, 2):
-        count->need.names += named;
-        return 1;
+    case WHERE(ATTRIBUTE, 6):
+    case WHERE(ATTRIBUTE, 11):
+        return depth < DEEPEST && count_message(count, GRAPH, field->start, field->end, depth + 1);
     default:
         return 1;
     }
@@ -109,11 +152,6 @@ static int count_message(struct count *count, enum message message, size_t at, s
         if (!read_field(count->model, &at, end, &field) || !count_field(count, message, &field, depth))
             return 0;
     return 1;
-}
-
-static size_t least(size_t one, size_t other)
-{
-    return one < other ? one : other;
 }
 
 /* Whether the library refuses a model before it keeps a name. Where no operators are allowed it refuses the first import with 14, and
@@ -133,13 +171,13 @@ size_t onnx_gate_extra_for(size_t cells, size_t lists)
 
 struct onnx_gate_need onnx_gate_needed(const uint8_t *model, size_t model_length)
 {
-    struct onnx_gate_need nothing = {0, 0};
-    struct count count = {model, nothing};
+    struct onnx_gate_need nothing = {0, 0}, need;
+    struct count count = {model, 0, nothing, nothing};
     if (model_length > LARGEST_MODEL || !count_message(&count, MODEL, 0, model_length, 0))
         return nothing;
-    if (count.need.lists > LONG_LISTS && keeps_nothing(model, model_length))
+    need.lists = count.outside + count.most.lists;
+    if (need.lists > LONG_LISTS && keeps_nothing(model, model_length))
         return nothing;
-    count.need.names = least(count.need.names, model_length / LEAST_NAME);
-    count.need.lists = least(count.need.lists, model_length / LEAST_ENTRY);
-    return count.need;
+    need.names = count.most.names < model_length / LEAST_NAME ? count.most.names : model_length / LEAST_NAME;
+    return need;
 }

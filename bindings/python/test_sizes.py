@@ -138,7 +138,7 @@ class Sizes(unittest.TestCase):
             answer, (names, lists) = onnx_gate.check(changed, LIST, len(changed), 5 * len(changed)), needed(bytes(changed))
             accepted += bool(answer)
             self.assertLessEqual(answer.names, names)
-            self.assertLessEqual(max(3 * names, 7 * lists), len(changed))
+            self.assertLessEqual(3 * max(names, lists), len(changed))
         self.assertGreater(accepted, 500)
 
 

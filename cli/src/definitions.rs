@@ -3,8 +3,8 @@ use crate::path::DEEPEST;
 use crate::schema::Kind;
 use crate::wire::{self, Field};
 
-/// The first places, in byte order and at most `most`, of inputs, initializers and node outputs that bear `name`. Which
-/// of them are visible somewhere is not said.
+/// The first places, in byte order and at most `most`, of inputs, initializers and node outputs that bear `name`, in
+/// graphs and functions. Which of them are visible somewhere is not said.
 pub fn of(model: &[u8], name: &[u8], most: usize) -> Vec<usize> {
     let mut search = Search { model, name, most, found: Vec::new() };
     search.message(Kind::Model, 0, model.len(), 0);
@@ -40,7 +40,8 @@ impl Search<'_> {
 fn leads_to(kind: Kind, number: u64) -> Option<Kind> {
     match (kind, number) {
         (Kind::Model, 7) | (Kind::Attribute, 6 | 11) => Some(Kind::Graph),
-        (Kind::Graph, 1) => Some(Kind::Node),
+        (Kind::Model, 25) => Some(Kind::Function),
+        (Kind::Graph, 1) | (Kind::Function, 7) => Some(Kind::Node),
         (Kind::Node, 5) => Some(Kind::Attribute),
         _ => None,
     }
@@ -50,7 +51,7 @@ fn defines(model: &[u8], kind: Kind, f: &Field, stop: usize, name: &[u8]) -> boo
     let borne = match (kind, f.number) {
         (Kind::Graph, 11) => wire::contents(model, f.value, stop, 1),
         (Kind::Graph, 5) => wire::contents(model, f.value, stop, 8),
-        (Kind::Node, 2) => model.get(f.value..stop),
+        (Kind::Node, 2) | (Kind::Function, 4) => model.get(f.value..stop),
         _ => None,
     };
     borne == Some(name)
@@ -69,5 +70,16 @@ mod tests {
         let many = [&[0x3A, 0xF4, 1], node.repeat(2).as_slice()].concat();
         assert_eq!((of(&many, b"a", 3), of(&many, b"a", 99).len()), (vec![5, 8, 11], 80));
         assert!(of(&many[..130], b"a", 3).is_empty());
+    }
+
+    /// Inputs of a function and outputs of its nodes, and nothing in a default.
+    #[test]
+    fn functions_are_searched() {
+        let part = crate::samples::part;
+        let node = part(7, &part(2, b"a"));
+        let default = part(11, &part(6, &part(1, &part(2, b"a"))));
+        let function = part(25, &[part(4, b"b"), default, node, part(4, b"a"), part(5, b"a")].concat());
+        assert_eq!(of(&function, b"b", 9), [3]);
+        assert_eq!(of(&function, b"a", 9), [17, 20]);
     }
 }

@@ -62,7 +62,7 @@ fn found<'a>(given: &Given<'a>, refusal: Refusal) -> Explanation<'a> {
         return Explanation { notes: notes::of_arguments(given, refusal), ..Explanation::default() };
     }
     let mut path = path::find(given.model, refusal.place);
-    if lacks_a_field(refusal.number, &path) {
+    if lacks_a_field(given.model, refusal.number, &path) {
         path = Path::default();
     }
     // a padded tag may be none besides, and is refused for its padding first
@@ -78,18 +78,20 @@ fn found<'a>(given: &Given<'a>, refusal: Refusal) -> Explanation<'a> {
     }
 }
 
-/// 10, 11 and 12 are at 0 when the model itself lacks something, whatever field stands at 0.
-fn lacks_a_field(number: u64, path: &Path) -> bool {
+/// 10, 11 and 12 are at 0 when the model itself lacks something, whatever field stands at 0. A function that has no
+/// imports may stand there too, but is judged only in a model that has some.
+fn lacks_a_field(model: &[u8], number: u64, path: &Path) -> bool {
     match number {
         10 => !path.target().is_some_and(|t| t.is(Kind::Model, 1)),
-        11 | 12 => true,
+        11 => true,
+        12 => wire::fields(model, 0, model.len()).all(|f| f.number != 8),
         _ => false,
     }
 }
 
 /// The name at the place, or that of the innermost thing around it that has one. Shown by the library's name service.
 fn name<'a>(model: &'a [u8], number: u64, path: &Path<'a>) -> Option<&'a [u8]> {
-    if number < 13 || matches!(number, 15 | 16 | 20) {
+    if number < 12 || matches!(number, 16 | 20) {
         return None;
     }
     let target = path.target()?;

@@ -64,10 +64,10 @@ another name a pipe will do. At most 2,147,483,648 bytes of a file are read: a l
 judged where it lies, without a copy in memory, if it is your own and nobody writes to it; one that is written to
 meanwhile is judged as it was. More than one model, or a folder, ends with a line that counts the answers.
 
-An acceptance has three counts: the nodes of all graphs; the most names that are visible at once; and the odd names.
-These are not C identifiers (a letter or underscore, then letters, digits and underscores), as exporters write
-/encoder/MatMul, and need only be UTF-8. Of graphs, inputs, initializers, nodes, outputs, operators, attributes and
-dimension variables each field that holds such a name counts, uses too; domains do not.
+An acceptance has three counts: the nodes of all graphs and functions; the most names that are visible at once; and the
+odd names. These are not C identifiers (a letter or underscore, then letters, digits and underscores), as exporters
+write /encoder/MatMul, and need only be UTF-8. Of graphs, functions, inputs, initializers, nodes, outputs, operators,
+attributes and dimension variables each field that holds such a name counts, uses too; domains do not.
 
 Options:
 ",

@@ -41,7 +41,7 @@ pub fn show(file: &OsStr) -> io::Result<u8> {
 pub fn rules() -> io::Result<u8> {
     let mut out = io::BufWriter::new(output::standard()?);
     for r in onnx_gate::RULES {
-        writeln!(out, "{:2}  {:18}  {}", r.number, r.name, r.explanation)?;
+        writeln!(out, "{:2}  {:24}  {}", r.number, r.name, r.explanation)?;
     }
     out.flush().map(|()| DONE)
 }

@@ -1,9 +1,11 @@
 //! Lines that say more about one refusal: the value found, what the list allows, where a name is defined.
+mod functions;
+
 use crate::definitions;
 use crate::explain::Given;
 use crate::lists;
 use crate::path::{self, Path, Step};
-use crate::schema::Kind;
+use crate::schema::{Holds, Kind};
 use crate::text::{bare, quoted, signed};
 use crate::wire;
 use onnx_gate::operators::canonical;
@@ -23,20 +25,24 @@ pub fn of(given: &Given, refusal: Refusal, path: &Path, name: Option<&[u8]>) -> 
         1 => target.and_then(too_long),
         3 => no_tag(given.model, refusal.place),
         4 => target.map(|t| format!("it has wire type {}", t.field.wire)),
-        5 => target.and_then(|t| earlier(given.model, t, |f| f.number == t.field.number)),
+        5 => target.and_then(|t| first(given.model, t, |f| f.number == t.field.number)),
         9 => padded(given.model, refusal.place),
         10 => Some(value("ir_version", target.filter(|t| t.is(Kind::Model, 1)))),
         21 => target.and_then(|t| not_text(given.model, t)),
         23 => refusal.first.map(|first| format!("defined first at {}", with_path(given.model, first))),
         29 | 31 => path.steps.iter().nth_back(1).and_then(|t| namesake(given.model, t)),
+        12 => target.map(|_| "the imports of the model do not serve a function".into()),
         13 | 14 => target.and_then(|t| import(given, refusal.number, t)),
         25 => Some(value("elem_type", target.filter(|t| t.is(Kind::TensorType, 1)))),
         26 => Some(value("data_type", target.filter(|t| t.is(Kind::Tensor, 2)))),
-        28 => target.map(|t| imports(given.model, t)),
+        28 => target.map(|t| imports(given.model, t, functions::around(path))),
         32 => target.and_then(|t| attribute(given.model, t)),
+        33 => functions::reference(given.model, path),
         38 => Some(value("dim_value", target)),
         40 => Some(format!("there are {} cells, {CELLS_PER_NAME} for each name", given.cells)),
-        30 | 35 => return name.map_or(vec![], |n| defined(given.model, n)),
+        42 => functions::attribute_twice(given.model, path),
+        30 | 35 => return name.map_or(vec![], |n| defined(given.model, path, n)),
+        41 => return target.map_or(vec![], |t| functions::twice(given.model, t)),
         43 => return not_input(given.model, path, name),
         _ => None,
     };
@@ -72,10 +78,17 @@ fn padded(model: &[u8], place: usize) -> Option<String> {
 }
 
 /// The first field before `step` in its message that is alike.
-fn earlier(model: &[u8], step: &Step, alike: impl Fn(&wire::Field) -> bool) -> Option<String> {
-    let mut before = wire::fields(model, step.from, step.within).take_while(|f| f.tag < step.field.tag);
-    let first = before.find(alike)?.tag;
-    Some(format!("first at {}", with_path(model, first)))
+fn earlier(model: &[u8], step: &Step, alike: impl Fn(&wire::Field) -> bool) -> Option<wire::Field> {
+    wire::fields(model, step.from, step.within).take_while(|f| f.tag < step.field.tag).find(alike)
+}
+
+/// Where that is.
+fn first(model: &[u8], step: &Step, alike: impl Fn(&wire::Field) -> bool) -> Option<String> {
+    earlier(model, step, alike).map(|f| format!("first at {}", with_path(model, f.tag)))
+}
+
+fn contents<'m>(model: &'m [u8], field: &wire::Field) -> Option<&'m [u8]> {
+    model.get(field.value..field.end?)
 }
 
 fn with_path(model: &[u8], place: usize) -> String {
@@ -85,7 +98,7 @@ fn with_path(model: &[u8], place: usize) -> String {
 /// Where a name stops being UTF-8, and why.
 fn not_text(model: &[u8], target: &Step) -> Option<String> {
     let value = target.field.value;
-    let held = model.get(value..target.field.end?)?;
+    let held = contents(model, &target.field)?;
     if held.is_empty() && target.is(Kind::Dim, 2) {
         return Some("the dim_param is empty".into());
     }
@@ -108,9 +121,10 @@ fn malformed(first: u8, next: Option<u8>) -> &'static str {
 
 /// The earlier node or attribute that has the same name.
 fn namesake(model: &[u8], step: &Step) -> Option<String> {
-    let number = if step.is(Kind::Graph, 1) { Kind::Node.label() } else { Kind::Attribute.label() }?;
+    let Holds::Message(kind) = step.row()?.3 else { return None };
+    let number = kind.label()?;
     let named = |f: &wire::Field| f.end.and_then(|end| wire::contents(model, f.value, end, number));
-    earlier(model, step, |f| f.number == step.field.number && f.wire == 2 && named(f) == step.label)
+    first(model, step, |f| f.number == step.field.number && f.wire == 2 && named(f) == step.label)
 }
 
 fn value(field: &str, target: Option<&Step>) -> String {
@@ -138,14 +152,19 @@ fn import(given: &Given, number: u64, target: &Step) -> Option<String> {
     })
 }
 
-/// The domain of a node that is not imported, and those that are.
-fn imports(model: &[u8], target: &Step) -> String {
-    let held = model.get(target.field.value..target.field.end.unwrap_or(0)).filter(|_| target.is(Kind::Node, 7));
+/// The domain of a node that is not imported, and those that are: by the function around it, or by the model.
+fn imports(model: &[u8], target: &Step, function: Option<&Step>) -> String {
+    let held = contents(model, &target.field).filter(|_| target.is(Kind::Node, 7));
     let domain = bare(canonical(held.unwrap_or_default()));
-    let imports = wire::fields(model, 0, model.len()).filter(|f| f.number == 8 && f.wire == 2);
+    let (from, to, number) = function.map_or((0, model.len(), 8), |f| (f.field.value, f.field.end.unwrap_or(0), 9));
+    let imports = wire::fields(model, from, to).filter(|f| f.number == number && f.wire == 2);
     let shown = |f: wire::Field| f.end.map(|end| bare(imported(model, f.value, end).0));
     let shown: Vec<String> = imports.filter_map(shown).take(8).collect();
-    format!("the node's domain is {domain}; the model imports {}", shown.join(", "))
+    let (who, more) = match function {
+        Some(_) => ("its function", "; the imports of the model do not serve it"),
+        None => ("the model", ""),
+    };
+    format!("the node's domain is {domain}; {who} imports {}{more}", shown.join(", "))
 }
 
 /// The type that an attribute gives, and the values that it holds.
@@ -159,7 +178,9 @@ fn attribute(model: &[u8], target: &Step) -> Option<String> {
     let mut held: Vec<&str> = names.map(|row| row.1).collect();
     held.sort_unstable();
     let held = if held.is_empty() { "nothing".into() } else { held.join(", ") };
-    Some(format!("type is {kind}; the attribute holds {held}"))
+    let refers = wire::contents(model, at, end, 21).filter(|name| !name.is_empty());
+    let refers = refers.map_or(String::new(), |name| format!(", and refers to {}", quoted(name)));
+    Some(format!("type is {kind}; the attribute holds {held}{refers}"))
 }
 
 /// The inputs of an initializer's graph, and what else has its name: mostly an input of a graph around it.
@@ -177,23 +198,32 @@ fn not_input(model: &[u8], path: &Path, name: Option<&[u8]>) -> Vec<String> {
 /// The first inputs of the graph that the field stands in, and how many more there are.
 fn inputs(model: &[u8], step: &Step) -> String {
     let inputs = || wire::fields(model, step.from, step.within).filter(|f| f.number == 11 && f.wire == 2);
-    let shown = |f: wire::Field| f.end.and_then(|end| wire::contents(model, f.value, end, 1)).map(quoted);
-    let named: Vec<String> = inputs().take(NAMED).filter_map(shown).collect();
-    match inputs().count() {
-        0 => "its graph has no inputs".into(),
+    let named = |f: wire::Field| f.end.and_then(|end| wire::contents(model, f.value, end, 1));
+    few("input", "graph", || inputs().map(named))
+}
+
+/// The first things of the graph or function that something stands in, and how many more there are.
+fn few<'m, I: Iterator<Item = Option<&'m [u8]>>>(thing: &str, whole: &str, things: impl Fn() -> I) -> String {
+    let named: Vec<String> = things().take(NAMED).flatten().map(quoted).collect();
+    match things().count() {
+        0 => format!("its {whole} has no {thing}s"),
         count if count > NAMED => {
-            format!("the inputs of its graph are {} and {} more", named.join(", "), count - NAMED)
+            format!("the {thing}s of its {whole} are {} and {} more", named.join(", "), count - NAMED)
         }
-        1 => format!("the input of its graph is {}", named.join("")),
-        _ => format!("the inputs of its graph are {}", named.join(", ")),
+        1 => format!("the {thing} of its {whole} is {}", named.join("")),
+        _ => format!("the {thing}s of its {whole} are {}", named.join(", ")),
     }
 }
 
-/// Where the name is defined all the same: later, in another branch, or nowhere.
-fn defined(model: &[u8], name: &[u8]) -> Vec<String> {
+/// Where the name is defined all the same: later, in another branch or function, or nowhere.
+fn defined(model: &[u8], path: &Path, name: &[u8]) -> Vec<String> {
     let places = definitions::of(model, name, NAMED);
     if places.is_empty() {
         return vec![format!("nothing in the model defines {}", quoted(name))];
     }
-    places.iter().map(|p| format!("defined at {}", path::find(model, *p).shown())).collect()
+    let mut notes: Vec<String> =
+        places.iter().map(|p| format!("defined at {}", path::find(model, *p).shown())).collect();
+    let outside = |f: &&Step| places.iter().all(|p| !(f.field.value..f.field.end.unwrap_or(0)).contains(p));
+    notes.extend(functions::around(path).filter(outside).map(|_| "a function sees no name from outside it".into()));
+    notes
 }

@@ -8,7 +8,7 @@ use std::io;
 use std::panic::AssertUnwindSafe;
 
 /// The numbers of all fields that are walked lie below.
-const NUMBERS: usize = 16;
+const NUMBERS: usize = 26;
 
 /// Tells each odd name with its path, in the order of the bytes; and what is wrong, where they are not as many as the
 /// library counts.
@@ -78,7 +78,8 @@ impl<'a, T: FnMut(&Path, &'a [u8]) -> io::Result<()>> Walk<'a, T> {
 /// domains, the tensors and the reference of an attribute, and types in nested graphs.
 fn walked(kind: Kind, number: u64, main: bool) -> Option<&'static Row> {
     let passed_over = match (kind, number) {
-        (Kind::Model, 8) | (Kind::Graph, 13) | (Kind::Node, 7) | (Kind::Attribute, 5 | 10 | 21) => true,
+        (Kind::Model, 8) | (Kind::Function, 9 | 10) | (Kind::Graph, 13) | (Kind::Node, 7) => true,
+        (Kind::Attribute, 5 | 10 | 21) => true,
         (Kind::ValueInfo, 2) => !main,
         _ => false,
     };

@@ -144,6 +144,29 @@ mod tests {
     }
 
     #[test]
+    fn paths_in_functions() {
+        let part = crate::samples::part;
+        let (node, proto) = (part(7, b"\x12\x01y\x22\x01X"), part(11, b"\x0A\x01k"));
+        let fields = [part(1, b"f"), part(4, b"x"), part(5, b"y"), part(6, b"a"), node, part(9, b"\x0A\x01d"), proto];
+        let m = [part(25, b""), part(25, &fields.concat())].concat();
+        let shown = |place| find(&m, place).shown();
+        assert_eq!((shown(0), shown(3)), ("functions[0]".into(), r#"functions[1] "f""#.into()));
+        for (place, rest) in [
+            (6, "name"),
+            (9, "input[0]"),
+            (12, "output[0]"),
+            (15, "attribute[0]"),
+            (18, "node[0] (X)"),
+            (20, "node[0] (X) > output[0]"),
+            (26, r#"opset_import[0] "d""#),
+            (31, r#"attribute_proto[0] "k""#),
+            (33, r#"attribute_proto[0] "k" > name"#),
+        ] {
+            assert_eq!(shown(place), format!(r#"functions[1] "f" > {rest}"#));
+        }
+    }
+
+    #[test]
     fn what_cannot_be_read() {
         let cut = &model()[..12];
         assert_eq!(find(cut, 6).shown(), "graph");

@@ -4,6 +4,7 @@
 pub enum Kind {
     Model,
     Import,
+    Function,
     Graph,
     Node,
     Attribute,
@@ -41,10 +42,24 @@ const MODEL: &[Row] = &[
     (8, "opset_import", true, Message(Import)),
     (14, "metadata_props", true, Other),
     (20, "training_info", true, Other),
-    (25, "functions", true, Other),
+    (25, "functions", true, Message(Function)),
     (26, "configuration", true, Other),
 ];
 const IMPORT: &[Row] = &[(1, "domain", false, Name), (2, "version", false, Other)];
+const FUNCTION: &[Row] = &[
+    (1, "name", false, Name),
+    (4, "input", true, Name),
+    (5, "output", true, Name),
+    (6, "attribute", true, Name),
+    (7, "node", true, Message(Node)),
+    (8, "doc_string", false, Other),
+    (9, "opset_import", true, Message(Import)),
+    (10, "domain", false, Name),
+    (11, "attribute_proto", true, Message(Attribute)),
+    (12, "value_info", true, Other),
+    (13, "overload", false, Other),
+    (14, "metadata_props", true, Other),
+];
 const GRAPH: &[Row] = &[
     (1, "node", true, Message(Node)),
     (2, "name", false, Name),
@@ -130,6 +145,7 @@ impl Kind {
         match self {
             Model => MODEL,
             Import => IMPORT,
+            Function => FUNCTION,
             Graph => GRAPH,
             Node => NODE,
             Attribute => ATTRIBUTE,
@@ -149,7 +165,7 @@ impl Kind {
     /// The field that says which of several such messages this is.
     pub fn label(self) -> Option<u64> {
         match self {
-            Import | Attribute | ValueInfo => Some(1),
+            Import | Function | Attribute | ValueInfo => Some(1),
             Node => Some(3),
             Tensor => Some(8),
             _ => None,

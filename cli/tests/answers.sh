@@ -13,6 +13,7 @@ test_answers() {
     many_names
     operator_lists
     said
+    same "functions" "$(script functions "$gate" "$root/examples")" "as expected"
     same "terminal" "$(script terminal "$gate" "$root/examples")" "as expected"
 }
 
@@ -222,7 +223,7 @@ padding() {
 # Models of 64 MB that are dear to explain, within 10 MB more, and too little memory for any explanation.
 dear_explanations() {
     script hostile "$root/examples" .
-    for file in nodes outputs defaults values names fields; do
+    for file in nodes outputs defaults values names fields functions references; do
         expect 1 "$file.onnx: refused *  where  *: accepted*1 accepted, 1 refused, 0 not judged" '' \
             "${within[@]}" 75536 "$gate" check "$file.onnx" "$good"
     done
@@ -255,10 +256,14 @@ many_names() {
     try 1 '*: refused 29 at *"node0"*first at 50, graph > node?0? "node0"*' '' check named-twice.onnx
     try 0 '*: accepted nodes 0 names 20000 odd 0' '' check defaults.onnx
     try 0 '*: accepted nodes 1 names 1 odd 0' '' check attributes.onnx
+    try 0 '*: accepted nodes 0 names 0 odd 0' '' check functions.onnx
+    try 0 '*: accepted nodes 1 names 1 odd 0' '' check references.onnx
     quick unnamed.onnx
     quick named.onnx
     quick defaults.onnx
     quick attributes.onnx
+    quick functions.onnx
+    quick references.onnx
     try 0 '*: accepted nodes 1 names 1500000 odd 0' '' check outputs.onnx
     # with no memory for them it is not judged, and the next one is
     expect 2 $'unnamed.onnx: accepted nodes 20000 names 20001 odd 0\n1 accepted, 0 refused, 1 not judged' \
@@ -286,7 +291,7 @@ said() {
     try 0 'Makes and prints operator lists*' '' operators --help
     try 0 'onnx-gate [0-9]*' '' --version
     try 0 'onnx-gate [0-9]*' '' check -V
-    try 0 ' 1  past-end*'$'\n'' 9  padded  *40  cells-full*43  initializer-not-input*65  too-few-extra*' '' rules
+    try 0 ' 1  past-end*'$'\n'' 9  padded  *14  *16  *40  cells-full*41  function-twice*42  *43  initializer-not-input*65  too-few-extra*' '' rules
     try 0 'Prints every refusal number*65 is for programs*' '' rules --help
     run "$gate" rules >"$work/rules"
     same "the rules in Python" "$(script same_rules "$work/rules" "$(grep -rl '^RULES = {' "$root/bindings/python")")" "same"

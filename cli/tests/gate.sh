@@ -52,7 +52,7 @@ commands() {
     expect 2 '' '*no such file' ./linked ''
     expect 2 '' 'gate: usage*' ./linked install
     expect 0 '*installed *onnx-gate [0-9]*' '' ./linked install "a prefix"
-    expect 1 '*42 refused, 0 not judged' '*these were the examples*' ./linked
+    expect 1 "*$(find "$root/examples" -name '[0-9]*.onnx' | wc -l) refused, 0 not judged" '*these were the examples*' ./linked
     : >rules && ln -s nowhere check
     expect 2 '' 'gate: rules is a command, and a file here as well: for the file write ./rules*' ./linked rules
     expect 2 '' 'gate: check is a command*' ./linked check good.onnx

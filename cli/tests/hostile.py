@@ -5,7 +5,7 @@ from pathlib import Path
 examples, folder = sys.argv[1], Path(sys.argv[2])
 sys.dont_write_bytecode = True
 sys.path.insert(0, examples)
-from make import graph, initializer, model, node, number, part  # noqa: E402
+from make import function, graph, initializer, model, node, number, own_node, part, reference  # noqa: E402
 
 SIZE = 67_108_864 - 256
 
@@ -26,3 +26,8 @@ name = "n" * (SIZE // 2 - 64)
 (folder / "names.onnx").write_bytes(model(graph("g", initializer(name), initializer(name))))
 # millions of fields before the one at fault
 (folder / "fields.onnx").write_bytes(model(graph("g", many(part(10, b"")), node("", [], ["y"]))))
+# millions of fields in a function, which is there before; and in one that lacks an attribute
+half = part(8, b"") * (SIZE // 4)
+(folder / "functions.onnx").write_bytes(model(graph("g"), 2 * function("f", half, inputs=(), outputs=())))
+bad = own_node("X", [], ["y"], reference("a", "b"))
+(folder / "references.onnx").write_bytes(model(graph("g"), function("f", many(part(8, b"")), bad, inputs=(), outputs=())))

@@ -19,10 +19,11 @@ LENGTHS += [2**bits - n for bits in (32, 64) for n in (2, 7, 9, 20, 40)]
 
 
 def models(field):
-    """Each with its place: in the model, the graph, a node of it, an attribute, a tensor and a type."""
+    """Each with its place: in the model, the graph, a node of it, an attribute, a tensor and a type; and in a function."""
     start = number(1, 8) + imported()
     yield start + field, len(start)
-    for around in [(7,), (7, 1), (7, 1, 5), (7, 1, 5, 6), (7, 5), (7, 11, 2, 1)]:
+    of_function = [(25,), (25, 7), (25, 7, 5, 6), (25, 9), (25, 11)]
+    for around in [(7,), (7, 1), (7, 1, 5), (7, 1, 5, 6), (7, 5), (7, 11, 2, 1), *of_function]:
         inner = field
         for number_around in reversed(around):
             inner = part(number_around, inner)

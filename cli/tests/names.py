@@ -12,7 +12,7 @@ from pathlib import Path
 
 command, examples = map(os.path.abspath, sys.argv[1:])
 sys.path.insert(0, examples)
-from make import graph, initializer, model, node, part  # noqa: E402
+from make import function, graph, initializer, integer, model, node, own_node, part, reference  # noqa: E402
 
 HOSTILE = [
     # controls, alone and in sequences, and what looks like an answer
@@ -107,6 +107,21 @@ def models(name):
         yield model(graph("g", fields)), accepted
     yield model(graph(name)), text
     yield model(graph("g"), imports=part(8, part(1, name))), False
+    bare = {"inputs": (), "outputs": ()}
+    for functions, accepted in [
+        (function(name, **bare), text),
+        (function("f", inputs=[name], outputs=()), text),
+        (function("f", attributes=[name], inputs=(), outputs=()), text),
+        (function("f", defaults=[integer(name, 1)], **bare), text),
+        (function("f", inputs=(), outputs=[name]), False),
+        (function("f", attributes=[name, name], **bare), False),
+        (function("f", own_node("X", [], ["y"], reference("a", name)), **bare), False),
+        (function("f", own_node("X", [], ["y"], domain=name), **bare), False),
+        (2 * function(name, **bare), False),
+        (2 * function("f", domain=name, **bare), False),
+        (function("f", **bare) + function("f", overload=name, **bare), False),
+    ]:
+        yield model(graph("g"), functions), accepted
 
 
 def names(folder):

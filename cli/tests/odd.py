@@ -17,7 +17,8 @@ from make import part  # noqa: E402
 
 # the fields that are opened and those that are tested, by the message that they stand in
 OPENED = {
-    "model": {7: "graph"},
+    "model": {7: "graph", 25: "function"},
+    "function": {7: "node", 11: "attribute"},
     "graph": {1: "node", 5: "tensor", 11: "value", 12: "value"},
     "node": {5: "attribute"},
     "attribute": {6: "graph", 11: "graph"},
@@ -26,7 +27,9 @@ OPENED = {
     "tensor type": {2: "shape"},
     "shape": {1: "dim"},
 }
-TESTED = {"graph": {2}, "node": {1, 2, 3, 4}, "attribute": {1}, "tensor": {8}, "value": {1}, "dim": {2}}
+TESTED = {"graph": {2}, "node": {1, 2, 3, 4}, "attribute": {1}, "tensor": {8}, "value": {1}, "dim": {2}, "function": {1, 4, 5, 6}}
+# what is spelled with them and not tested: the name that an attribute refers to
+REFERRING = {"attribute": {21}}
 # what is added to a name, before and after it; none of it is a letter or a digit, so that no two names become one
 SPELLINGS = [("", ""), ("/", ""), ("", "::"), ("/-", "."), ("", "\u2192\u6a21"), ("\0", "\x1b["), (" ", "\\\"")]
 
@@ -61,7 +64,7 @@ def spelled(data, kind, spelling):
         inner = OPENED.get(kind, {}).get(number)
         if inner:
             out += part(number, spelled(data[start:end], inner, spelling))
-        elif number in TESTED.get(kind, ()) and start != end:
+        elif (number in TESTED.get(kind, ()) or number in REFERRING.get(kind, ())) and start != end:
             before, after = spelling[data[start:end]]
             out += part(number, before.encode() + data[start:end] + after.encode())
         else:

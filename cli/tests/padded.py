@@ -12,7 +12,7 @@ import tempfile
 command, examples = map(os.path.abspath, sys.argv[1:])
 sys.dont_write_bytecode = True
 sys.path.insert(0, examples)
-from make import INTS, graph, model, node, number, padded, part, typed, varint  # noqa: E402
+from make import INTS, graph, model, node, number, padded, part, typed, used, varint  # noqa: E402
 
 # field 99, which no message has, so that nothing but its varints is at fault: tag, value or length, contents
 TAG = 99 << 3
@@ -51,6 +51,15 @@ def around(field):
     dim = part(1, number(1, 4) + field)
     shaped = part(1, "x") + part(2, part(1, number(1, 1) + part(2, dim)))
     yield model(graph("g", part(11, shaped))), 'graph > input[0] "x" > type > tensor_type > shape > dim[0] > '
+    yield model(graph("g"), of_function(field)), 'functions[0] "f" > '
+    of_import = part(9, part(1, "ai.onnx.ml") + number(2, 1) + field)
+    yield model(graph("g"), of_function(of_import)), 'functions[0] "f" > opset_import[1] "ai.onnx.ml" > '
+    yield model(graph("g"), of_function(part(7, part(2, "y") + part(4, "X") + field))), 'functions[0] "f" > node[0] (X) > '
+    yield model(graph("g"), of_function(part(11, attribute + field))), 'functions[0] "f" > attribute_proto[0] "a" > '
+
+
+def of_function(field):
+    return part(25, part(1, "f") + used() + field)
 
 
 def unopened():
@@ -62,6 +71,8 @@ def unopened():
     # dims and data of a tensor, and fields that no row names
     yield model(graph("g", part(5, part(1, two) + number(2, 7) + part(7, two) + part(8, "w") + part(9, two))))
     yield model(graph("g"), more=part(6, two) + part(14, two) + part(99, two))
+    # of a function what only people read, its value_info, and numbers that it had once
+    yield model(graph("g"), of_function(b"".join(part(field, two) for field in (2, 3, 8, 12, 14))))
 
 
 def answers(path, contents):

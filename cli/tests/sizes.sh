@@ -122,7 +122,7 @@ copies() {
 repeated_names() {
     local file answer most=$((70000000 / 1024))
     script repeated "$root/examples" . >expected
-    same "models that repeat a name" "$(wc -l <expected)" 3
+    same "models that repeat a name" "$(wc -l <expected)" 6
     while IFS=: read -r file answer; do
         expect 1 "$file:$answer"$'\n*' '' python3 "$root/cli/tests/peak.py" "$most" "$gate" check "$file"
         run python3 "$root/cli/tests/peak.py" "$most" "$gate" check - <"$file" >"$work/out" 2>"$work/err"

@@ -4,6 +4,7 @@
 test_versions() {
     edges
     defaults_only
+    overloads
 }
 
 # M0 with the version in two hex digits, before its graph and behind it.
@@ -49,4 +50,18 @@ defaults_only() {
     try 1 $'ok-network.onnx: refused 43 at 58\n*the input of its graph is "x"\n*' '' check ok-network.onnx
     try 0 '*: accepted nodes 2 names 4 odd 0' '' check 43-initializer-not-input.onnx
     rm ./*.onnx
+}
+
+# An overload tells functions apart from version 10 on. The example has two of one name.
+overloads() {
+    for version in A B; do
+        at $version ok-overloads
+        try 0 'ok-overloads.onnx: accepted*' '' check ok-overloads.onnx
+    done
+    for version in 4 9; do
+        at $version ok-overloads
+        try 1 $'*: refused 41 at *first at *, functions?0? "aten_add"\n*apart from IR version 10 on, and ir_version is '"$version"$'\n*' '' \
+            check ok-overloads.onnx
+    done
+    rm ok-overloads.onnx
 }

@@ -4,16 +4,21 @@
 mod attributes;
 mod crafted;
 mod defaults;
+mod function_attributes;
+mod function_imports;
+mod functions;
 mod imports;
 mod near;
 mod nested_defaults;
 mod nodes;
 mod parts;
+mod references;
 mod scopes;
 mod starts;
 
 use crate::checker::{Counts, Verdict, CELLS_PER_NAME};
 use crate::models::lists::L;
+use crate::models::proto::Tree;
 use crate::rows::Row;
 
 pub use crafted::{crafted, SEED};
@@ -23,7 +28,9 @@ pub use near::near;
 pub fn small() -> Vec<Row> {
     let lists =
         [nodes::rows(), attributes::rows(), defaults::rows(), nested_defaults::rows(), imports::rows()].concat();
-    [scopes::rows(), lists, starts::rows(), crafted::few()].concat()
+    let of_functions =
+        [functions::rows(), function_attributes::rows(), references::rows(), function_imports::rows()].concat();
+    [scopes::rows(), lists, of_functions, starts::rows(), crafted::few()].concat()
 }
 
 /// So many names in a list: more than the smaller sizes of extra cells have room for.
@@ -56,9 +63,22 @@ fn defined(name: &str, model: Vec<u8>, field: (u8, &str, usize), first: (u8, &st
 }
 
 fn place_of(model: &[u8], (tag, contents, nth): (u8, &str, usize)) -> u64 {
-    let field = [&[tag, contents.len() as u8], contents.as_bytes()].concat();
+    place_of_bytes(model, tag, contents.as_bytes(), nth)
+}
+
+/// The contents are shorter than 128 bytes.
+fn place_of_bytes(model: &[u8], tag: u8, contents: &[u8], nth: usize) -> u64 {
+    let field = [&[tag, contents.len() as u8], contents].concat();
     let mut places = (0..model.len()).filter(|at| model[*at..].starts_with(&field));
-    places.nth(nth).unwrap_or_else(|| panic!("no field {nth} {tag:02X} {contents}")) as u64
+    places.nth(nth).unwrap_or_else(|| panic!("no field {nth} {tag:02X} {contents:02X?}")) as u64
+}
+
+/// Refused at the last field of the model: nothing but it stands where it begins.
+fn at_last(name: &str, number: u64, mut model: Tree) -> Row {
+    let whole = model.encode();
+    model.items.pop();
+    let answer = Verdict::refused(number, model.encode().len() as u64);
+    Row { name: name.into(), model: whole, list: L.to_vec(), cells: CELLS_PER_NAME * 3 * MANY, answer }
 }
 
 #[cfg(test)]
@@ -72,7 +92,7 @@ mod tests {
         for row in &rows {
             assert_eq!(check(&row.model, &row.list, row.cells), row.answer, "{}", row.name);
         }
-        for number in [0, 13, 23, 28, 29, 30, 31, 35, 43] {
+        for number in [0, 13, 23, 28, 29, 30, 31, 33, 35, 41, 42, 43] {
             let count = rows.iter().filter(|row| row.answer.number() == number).count();
             assert!(count > 1, "{count} rows answer {number}");
         }

@@ -1,16 +1,17 @@
-//! The plain checker: document 01's rules over a standard map, written from that page and its readings,
+//! The plain checker: document 01's rules and those of document 02 over a standard map, written from these pages and their readings,
 //! and not from the crates.
 //! It is linear in the model: each message is scanned a fixed number of times, names go through hashing.
+//! `attributes.rs` has the rules of an attribute, `functions.rs` those of a function.
 
 use std::collections::{HashMap, HashSet};
 
-use crate::header::{header, Header};
+use crate::header::{header, Header, Imports};
 use crate::oplist;
 use crate::parts::{all, contents, first, identifier, number_in, refuse, Step};
 use crate::schema;
 use crate::utf8::well_formed;
 pub use crate::verdict::{Counts, Refusal, Verdict};
-use crate::wire::{fields, Field};
+use crate::wire::Field;
 
 /// The largest model, in bytes.
 pub const LARGEST_MODEL: usize = 2_147_483_647;
@@ -45,22 +46,21 @@ fn judge(model: &[u8], list: &[u8], cells: usize, most: &mut usize) -> Result<Co
         return refuse(8, 0);
     };
     schema::first_walk(model)?;
-    let header = header(model, &operators)?;
-    let (graph, room) = (header.graph, cells / CELLS_PER_NAME);
-    let mut judge =
-        Judge { model, header, room, visible: HashMap::new(), trail: Vec::new(), nodes: 0, names: 0, odd: 0 };
-    let done = judge.graph(graph, true);
+    let Header { ir_version, graph, imports } = header(model, &operators)?;
+    let mut judge = Judge::new(model, ir_version, imports, cells / CELLS_PER_NAME);
+    let done = judge.graph(graph, true).and_then(|()| judge.functions(&operators));
     *most = judge.names;
     done.map(|()| Counts { nodes: judge.nodes, names: judge.names as u64, odd: judge.odd })
 }
 
-/// For each attribute type from 1 to 14 the field that carries its value.
-const CARRIERS: [u32; 14] = [2, 3, 4, 5, 6, 7, 8, 9, 10, 11, 22, 23, 14, 15];
-
 /// The second walk below the header.
-struct Judge<'m> {
-    model: &'m [u8],
-    header: Header<'m>,
+pub(crate) struct Judge<'m> {
+    pub(crate) model: &'m [u8],
+    pub(crate) ir_version: u64,
+    /// What the nodes have: the imports of the model, or of the function that is judged, and the names of this function's attributes. The
+    /// main graph has none.
+    pub(crate) imports: Imports<'m>,
+    pub(crate) attributes: HashSet<&'m [u8]>,
     /// How many names may be visible together.
     room: usize,
     /// The names visible now with their places, and the names in the order in which they became visible.
@@ -73,7 +73,12 @@ struct Judge<'m> {
 }
 
 impl<'m> Judge<'m> {
-    fn graph(&mut self, graph: Field, main: bool) -> Step {
+    fn new(model: &'m [u8], ir_version: u64, imports: Imports<'m>, room: usize) -> Judge<'m> {
+        let (attributes, visible, trail) = (HashSet::new(), HashMap::new(), Vec::new());
+        Judge { model, ir_version, imports, attributes, room, visible, trail, nodes: 0, names: 0, odd: 0 }
+    }
+
+    pub(crate) fn graph(&mut self, graph: Field, main: bool) -> Step {
         let outer = self.trail.len();
         self.name(graph, 2, 20)?;
         if let Some(sparse) = first(self.model, graph, 15) {
@@ -86,10 +91,7 @@ impl<'m> Judge<'m> {
             }
         }
         self.initializers(graph, main)?;
-        let mut node_names = HashSet::new();
-        for node in all(self.model, graph, 1) {
-            self.node(node, &mut node_names)?;
-        }
+        self.node_list(graph, 1)?;
         for output in all(self.model, graph, 12) {
             let (name, place) = self.name(output, 1, 22)?;
             self.use_name(name, place, 35)?;
@@ -97,17 +99,31 @@ impl<'m> Judge<'m> {
                 self.tensor_type(output)?;
             }
         }
-        for name in self.trail.drain(outer..) {
-            self.visible.remove(name);
+        self.forget(outer);
+        Ok(())
+    }
+
+    /// The nodes in the field `number` of a graph or a function.
+    pub(crate) fn node_list(&mut self, message: Field, number: u32) -> Step {
+        let mut node_names = HashSet::new();
+        for node in all(self.model, message, number) {
+            self.node(node, &mut node_names)?;
         }
         Ok(())
+    }
+
+    /// Only the first `kept` names stay visible.
+    pub(crate) fn forget(&mut self, kept: usize) {
+        for name in self.trail.drain(kept..) {
+            self.visible.remove(name);
+        }
     }
 
     /// At IR version 3 "each initializer must bear the name of an input of its own graph, otherwise 43 (after 21, before 23), and a nested
     /// graph may give its own input a default once".
     fn initializers(&mut self, graph: Field, main: bool) -> Step {
         let model = self.model;
-        let defaults_only = self.header.ir_version == 3;
+        let defaults_only = self.ir_version == 3;
         // The inputs that may have a default, and whether they have one.
         let mut inputs = HashMap::new();
         if main || defaults_only {
@@ -160,47 +176,11 @@ impl<'m> Judge<'m> {
             Some(field) => (contents(self.model, field), field.place),
             None => (&self.model[..0], node.place),
         };
-        if self.header.imports.contains(oplist::domain(named)) {
+        if self.imports.contains(oplist::domain(named)) {
             Ok(())
         } else {
             refuse(28, place)
         }
-    }
-
-    fn attribute(&mut self, attribute: Field, attribute_names: &mut HashSet<&'m [u8]>) -> Step {
-        let model = self.model;
-        let (name, place) = self.name(attribute, 1, 22)?;
-        if !attribute_names.insert(name) {
-            return refuse(31, place);
-        }
-        if first(model, attribute, 21).is_some_and(|field| field.start != field.end) {
-            return refuse(33, attribute.place);
-        }
-        if !self.value_rule(attribute) {
-            return refuse(32, attribute.place);
-        }
-        for body in fields(model, attribute.start, attribute.end).filter(|field| matches!(field.number, 6 | 11)) {
-            self.graph(body, false)?;
-        }
-        Ok(())
-    }
-
-    /// The type is one of fourteen, no carrier of another type occurs, and types 4, 5, 11 and 13 have theirs.
-    fn value_rule(&self, attribute: Field) -> bool {
-        let kind = first(self.model, attribute, 20).map_or(0, |field| field.value as i64);
-        if !(1..=14).contains(&kind) {
-            return false;
-        }
-        let own = CARRIERS[kind as usize - 1];
-        let mut carried = false;
-        for field in fields(self.model, attribute.start, attribute.end) {
-            if field.number == own {
-                carried = true;
-            } else if CARRIERS.contains(&field.number) {
-                return false;
-            }
-        }
-        carried || !matches!(kind, 4 | 5 | 11 | 13)
     }
 
     /// The type of an input or output of the main graph: 24, 25, 37, then each dim.
@@ -229,10 +209,15 @@ impl<'m> Judge<'m> {
     }
 
     /// The name in the field `number` of `message`: `empty` where it is absent or empty, then 21.
-    fn name(&mut self, message: Field, number: u32, empty: u64) -> Result<(&'m [u8], usize), Refusal> {
-        let Some(field) = first(self.model, message, number) else {
-            return refuse(empty, message.place);
-        };
+    pub(crate) fn name(&mut self, message: Field, number: u32, empty: u64) -> Result<(&'m [u8], usize), Refusal> {
+        match first(self.model, message, number) {
+            Some(field) => self.held(field, empty),
+            None => refuse(empty, message.place),
+        }
+    }
+
+    /// The name that the field itself holds: `empty`, then 21.
+    pub(crate) fn held(&mut self, field: Field, empty: u64) -> Result<(&'m [u8], usize), Refusal> {
         if field.start == field.end {
             return refuse(empty, field.place);
         }
@@ -258,7 +243,7 @@ impl<'m> Judge<'m> {
         self.bind(name, place)
     }
 
-    fn bind(&mut self, name: &'m [u8], place: usize) -> Step {
+    pub(crate) fn bind(&mut self, name: &'m [u8], place: usize) -> Step {
         if let Some(&first) = self.visible.get(name) {
             return Err(Refusal { number: 23, place: place as u64, first: first as u64 });
         }
@@ -271,7 +256,7 @@ impl<'m> Judge<'m> {
         Ok(())
     }
 
-    fn use_name(&self, name: &[u8], place: usize, absent: u64) -> Step {
+    pub(crate) fn use_name(&self, name: &[u8], place: usize, absent: u64) -> Step {
         if self.visible.contains_key(name) {
             Ok(())
         } else {

@@ -11,7 +11,8 @@ use crate::odd;
 use crate::rng::Rng;
 use crate::rows::Row;
 use crate::runner::{End, Plan, Run};
-use crate::verdict::{refusal_numbers, Counts, Verdict};
+use crate::verdict::{Counts, Verdict, REFUSALS};
+use crate::wire::fields;
 
 /// What was done so far.
 #[derive(Default)]
@@ -31,6 +32,9 @@ pub struct Tally {
     /// Answers of 23 whose `first` was held to the runner's defining place, and how many of these have it behind their own place.
     pub twice: u64,
     pub behind: u64,
+    /// Generated models with functions, and how many of these were made sound.
+    pub with_functions: u64,
+    pub sound_functions: u64,
     /// Acceptances whose third count was held to a count of its own, and how many of these have odd names.
     pub counted: u64,
     pub odd: u64,
@@ -59,9 +63,9 @@ const ROW_CELLS: usize = 200;
 const TRIES: usize = 2;
 
 impl Tally {
-    /// The refusal numbers of document 01 that no comparison has met.
+    /// The refusal numbers that no comparison has met.
     pub fn never_met(&self) -> Vec<u64> {
-        refusal_numbers().into_iter().filter(|number| !self.numbers.contains_key(number)).collect()
+        REFUSALS.into_iter().filter(|number| !self.numbers.contains_key(number)).collect()
     }
 
     /// The kind of call of the indexed check that was made least often.
@@ -70,7 +74,14 @@ impl Tally {
         counted.min().unwrap_or_default()
     }
 
-    /// A generated case, at several numbers of cells, and on the runner.
+    pub fn generated(&mut self, case: &Case, rng: &mut Rng) -> Outcome {
+        let has_functions = fields(&case.model, 0, case.model.len()).any(|field| field.number == 25);
+        self.with_functions += u64::from(has_functions);
+        self.sound_functions += u64::from(has_functions && case.expected.is_some());
+        self.case(case, rng)
+    }
+
+    /// A case at several numbers of cells, and on the runner.
     pub fn case(&mut self, case: &Case, rng: &mut Rng) -> Outcome {
         self.cases += 1;
         self.bytes += case.model.len() as u64;
@@ -264,31 +275,4 @@ fn choice_lists(bodies: usize, rng: &mut Rng) -> Vec<Vec<u64>> {
 }
 
 #[cfg(test)]
-mod tests {
-    use super::*;
-    use crate::models::{self, faults};
-
-    #[test]
-    fn a_few_thousand_cases() {
-        let mut tally = Tally::default();
-        for number in 0..6000 {
-            let case = models::case(7, number);
-            tally.case(&case, &mut Rng::of_case(7, !number)).unwrap_or_else(|failure| panic!("{number}: {failure:?}"));
-        }
-        let unmet: Vec<u64> = tally.never_met().into_iter().filter(|number| *number != 7).collect();
-        assert_eq!(unmet, [], "numbers that no case met");
-    }
-
-    /// Every fault reaches the number that it is aimed at, in several models.
-    #[test]
-    fn faults_hit_their_aims() {
-        for fault in faults::all() {
-            let hits = (0..200).filter(|number| {
-                let case = models::with_fault(&mut Rng::of_case(3, *number), fault);
-                check(&case.model, &case.list, usize::MAX).number() == fault.aims
-            });
-            let hits = hits.count();
-            assert!(hits >= 10, "{}: {hits} of 200 models answer {}", fault.name, fault.aims);
-        }
-    }
-}
+mod tests;

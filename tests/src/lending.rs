@@ -35,9 +35,10 @@ pub const SIZES: [(&str, Size); 10] = [
     ("more", |n, bytes, rng| Some(4 * n + 4 * room(bytes) + 500 + rng.below(1_000))),
 ];
 
-/// For every name that a model of so many bytes can have in its lists; no model here has more than the bound.
+/// For every name that a model of so many bytes can have in its lists, where a function's attribute takes three bytes at least; no model here
+/// has more than the bound.
 fn room(bytes: usize) -> usize {
-    (bytes / 7).min(20_000)
+    (bytes / 3).min(20_000)
 }
 
 pub const SEEDS: [(&str, Seed); 5] = [

@@ -1,12 +1,14 @@
-//! Tests of the gate from outside: a checker and a runner written from document 01 and its readings, a generator of models,
+//! Tests of the gate from outside: a checker and a runner written from documents 01 and 02 and their readings, a generator of models,
 //! and the comparison of the proved library with them.
 
 pub mod aimed;
+mod attributes;
 pub mod buckets;
 pub mod checker;
 pub mod compare;
 #[cfg(test)]
 mod examples;
+mod functions;
 #[cfg(feature = "library")]
 pub mod gate;
 pub mod header;

@@ -37,7 +37,8 @@ fn main() -> ExitCode {
         show(&failure);
         return ExitCode::FAILURE;
     }
-    if settings.only.is_none() && (unmet(&tally) || rare(&settings, &tally) || heavy()) {
+    let wanting = || unmet(&tally) || rare(&settings, &tally) || few_functions(&settings, &tally) || heavy();
+    if settings.only.is_none() && wanting() {
         return ExitCode::FAILURE;
     }
     println!("ok: no disagreement");
@@ -78,6 +79,15 @@ fn rare(settings: &Settings, tally: &Tally) -> bool {
     few
 }
 
+/// Had fewer than a third of the generated models functions?
+fn few_functions(settings: &Settings, tally: &Tally) -> bool {
+    let few = 3 * tally.with_functions < settings.cases;
+    if few {
+        println!("FAILED: only {} models with functions", tally.with_functions);
+    }
+    few
+}
+
 fn settings() -> Result<Settings, String> {
     let mut settings = Settings { seed: 20_240_501, cases: 200_000, only: None };
     let mut words = std::env::args().skip(1);
@@ -98,12 +108,13 @@ fn run(settings: &Settings, tally: &mut Tally) -> Outcome {
     if let Some(number) = settings.only {
         return generated(settings.seed, number, tally);
     }
-    for row in rows::document().iter().chain(&rows::by_hand()) {
+    for row in rows::document().iter().chain(&rows::by_hand()).chain(&rows::functions()) {
         tally.row(row)?;
         tally.spellings(row)?;
     }
-    for row in rows::positions().iter().chain(&rows::ir_versions()).chain(&rows::names()).chain(&rows::wide()) {
-        tally.row(row)?;
+    let fields = rows::positions().into_iter().chain(rows::names()).chain(rows::function_fields());
+    for row in fields.chain(rows::ir_versions()).chain(rows::wide()) {
+        tally.row(&row)?;
     }
     aimed_models(tally)?;
     short_models(tally)?;
@@ -120,7 +131,7 @@ fn run(settings: &Settings, tally: &mut Tally) -> Outcome {
 
 fn generated(seed: u64, number: u64, tally: &mut Tally) -> Outcome {
     let case = models::case(seed, number);
-    tally.case(&case, &mut Rng::of_case(seed, !number)).map_err(|mut failure| {
+    tally.generated(&case, &mut Rng::of_case(seed, !number)).map_err(|mut failure| {
         failure.label = format!("case {number} of seed {seed}, {}", failure.label);
         failure
     })
@@ -191,7 +202,7 @@ fn short(tally: &mut Tally, label: &str, model: &[u8], rng: &mut Rng) -> Outcome
 /// The accepted rows with each byte replaced by each other, taken out, or the last.
 fn neighbours(tally: &mut Tally) -> Outcome {
     let mut rng = Rng::new(0);
-    for row in rows::document().into_iter().chain(rows::by_hand()) {
+    for row in rows::document().into_iter().chain(rows::by_hand()).chain(rows::whole_functions()) {
         if !matches!(row.answer, Verdict::Accepted(_)) || row.model.len() > 64 {
             continue;
         }
@@ -218,6 +229,7 @@ fn report(tally: &Tally, seconds: f64) {
     let per_second = tally.cases as f64 / seconds;
     println!("{} cases, {} verdicts in {seconds:.1} s ({per_second:.0} cases a second)", tally.cases, tally.verdicts);
     println!("{} bytes of generated models; {} runs of the runner, {} reads", tally.bytes, tally.runs, tally.reads);
+    println!("{} generated models with functions, {} of them sound", tally.with_functions, tally.sound_functions);
     println!("{} answers of 23 with the runner's defining place, {} of them before it", tally.twice, tally.behind);
     println!(
         "{} acceptances with the third count of the fields by themselves, {} with odd names",

@@ -13,7 +13,7 @@ pub mod wild;
 use crate::rng::Rng;
 use crate::schema::Message;
 use crate::verdict::Counts;
-use proto::Tree;
+use proto::{Tree, Value};
 
 /// One model under one list. `expected` are the counts of its acceptance, where it was made sound.
 #[derive(Clone, Debug)]
@@ -107,14 +107,18 @@ fn damaged(rng: &mut Rng) -> Case {
     Case { label: "damaged".into(), model, list: lists::encode(&made.entries), expected: None }
 }
 
-/// Keeps the rows and no rule; half of them with a sound header, so that the graph is judged.
+/// Keeps the rows and no rule; half of them with a sound header, so that the graph is judged, and half of these with a sound graph, so
+/// that the functions are.
 fn wild_model(rng: &mut Rng) -> Case {
     let depth = 1 + rng.below(6);
     let mut tree = wild::tree(rng, Message::Model, depth);
     if rng.chance(1, 2) {
         let import = Tree::new(Message::OperatorSetId).number(2, 13);
-        tree.items.retain(|item| item.number == 7);
+        tree.items.retain(|item| matches!(item.number, 7 | 25));
         tree = tree.number(1, *rng.pick(&[3, 8, 11])).tree(8, import);
+        if rng.chance(1, 2) {
+            tree.set(7, Value::Tree(Tree::new(Message::Graph).text(2, b"g")));
+        }
     }
     wild::sprinkle(&mut tree, rng);
     Case { label: "wild".into(), model: unsound(tree, rng), list: lists::L.to_vec(), expected: None }

@@ -1,4 +1,4 @@
-//! The third count of an acceptance by itself: every field that document 01's second walk tests for 21, found by what holds it, in wire
+//! The third count of an acceptance by itself: every field that the second walk tests for 21, found by what holds it, in wire
 //! order, with no scope and no rule. It shares only `wire.rs` with the checker.
 
 use crate::wire::{fields, Field};
@@ -10,7 +10,15 @@ struct Holder {
     inside: &'static [(u32, &'static Holder)],
 }
 
-static MODEL: Holder = Holder { what: "model", names: &[], inside: &[(7, &MAIN)] };
+static MODEL: Holder = Holder { what: "model", names: &[], inside: &[(7, &MAIN), (25, &FUNCTION)] };
+/// Neither domain nor overload is tested, and a default holds no graph.
+static FUNCTION: Holder =
+    Holder { what: "function", names: &[1, 4, 5, 6], inside: &[(7, &FUNCTION_NODE), (11, &DEFAULT)] };
+static FUNCTION_NODE: Holder =
+    Holder { what: "function's node", names: &[1, 2, 3, 4], inside: &[(5, &FUNCTION_ATTRIBUTE)] };
+static FUNCTION_ATTRIBUTE: Holder =
+    Holder { what: "attribute in a function", names: &[1], inside: &[(6, &BODY), (11, &BODY)] };
+static DEFAULT: Holder = Holder { what: "function's default", names: &[1], inside: &[] };
 static MAIN: Holder =
     Holder { what: "main graph", names: &[2], inside: &[(1, &NODE), (5, &TENSOR), (11, &INPUT), (12, &OUTPUT)] };
 static BODY: Holder = Holder {
@@ -99,7 +107,7 @@ mod tests {
     #[test]
     fn each_kind_of_field_has_each_kind_of_name() {
         let mut kinds: BTreeMap<(&str, u32), Seen> = BTreeMap::new();
-        for number in 0..20_000 {
+        for number in 0..60_000 {
             let case = models::case(11, number);
             let answer = check(&case.model, &case.list, usize::MAX);
             for (what, field) in tested(&case.model) {
@@ -114,7 +122,7 @@ mod tests {
                 seen.malformed += u64::from(answer == Verdict::refused(21, field.place as u64));
             }
         }
-        assert_eq!(kinds.len(), 14, "{kinds:#?}");
+        assert_eq!(kinds.len(), 24, "{kinds:#?}");
         for (kind, seen) in &kinds {
             let enough = seen.identifiers > 500 && seen.odd > 500 && seen.long > 20 && seen.malformed > 20;
             assert!(enough, "{kind:?}: {seen:?}");

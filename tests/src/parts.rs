@@ -3,12 +3,17 @@
 use std::ops::RangeInclusive;
 
 use crate::verdict::Refusal;
-use crate::wire::{fields, Field};
+use crate::wire::{fields, Field, BYTES};
 
 pub type Step = Result<(), Refusal>;
 
 pub fn refuse<T>(number: u64, place: usize) -> Result<T, Refusal> {
     Err(Refusal { number, place: place as u64, first: 0 })
+}
+
+/// The model as a field that begins at 0, so that what it lacks is refused at 0.
+pub fn whole(model: &[u8]) -> Field {
+    Field { place: 0, number: 0, kind: BYTES, value: 0, start: 0, end: model.len() }
 }
 
 /// The field `number` of `message`, read as a signed number, lies in `range`. An absent one reads as 0.
@@ -34,6 +39,11 @@ pub fn first(model: &[u8], message: Field, number: u32) -> Option<Field> {
 
 pub fn contents(model: &[u8], field: Field) -> &[u8] {
     &model[field.start..field.end]
+}
+
+/// The bytes of the first field `number`. Absent ones read as empty.
+pub fn bytes_of(model: &[u8], message: Field, number: u32) -> &[u8] {
+    first(model, message, number).map_or(&model[..0], |field| contents(model, field))
 }
 
 /// A letter or underscore, then letters, digits, underscores, ASCII only.

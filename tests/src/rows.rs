@@ -2,6 +2,7 @@
 
 mod by_hand;
 mod domains;
+mod functions;
 mod ir_versions;
 mod large;
 mod lengths;
@@ -14,6 +15,7 @@ mod versions;
 mod wide;
 
 pub use by_hand::by_hand;
+pub use functions::{function_fields, functions, whole_functions};
 pub use ir_versions::ir_versions;
 pub use large::large;
 pub use names::names;
@@ -136,9 +138,12 @@ mod tests {
     use crate::runner::{run, End, Read};
 
     fn holds(rows: impl IntoIterator<Item = Row>) {
-        for row in rows {
-            assert_eq!(check(&row.model, &row.list, row.cells), row.answer, "{}", row.name);
-        }
+        let told = |row: Row| {
+            let verdict = check(&row.model, &row.list, row.cells);
+            (verdict != row.answer).then(|| format!("{}: {:?}, the checker {verdict:?}", row.name, row.answer))
+        };
+        let wrong: Vec<String> = rows.into_iter().filter_map(told).collect();
+        assert!(wrong.is_empty(), "{wrong:#?}");
     }
 
     #[test]
@@ -162,6 +167,17 @@ mod tests {
     }
 
     #[test]
+    fn the_rows_of_functions() {
+        holds(functions());
+    }
+
+    #[test]
+    fn each_field_of_a_function() {
+        assert!(function_fields().len() > 2_000);
+        holds(function_fields());
+    }
+
+    #[test]
     fn the_rows_with_long_names_and_many() {
         holds(wide());
     }
@@ -179,7 +195,8 @@ mod tests {
     }
 
     fn all_rows() -> impl Iterator<Item = Row> {
-        document().into_iter().chain(by_hand()).chain(ir_versions()).chain(names()).chain(wide()).chain(large())
+        let by_hand = document().into_iter().chain(by_hand()).chain(functions()).chain(function_fields());
+        by_hand.chain(ir_versions()).chain(names()).chain(wide()).chain(large())
     }
 
     #[test]

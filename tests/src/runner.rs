@@ -1,4 +1,4 @@
-//! The plain runner of document 01. It is a definition of its own: it judges nothing and knows no checker.
+//! The plain runner of document 01, with the functions of document 02. It is a definition of its own: it judges nothing and knows no checker.
 //! The model is read once into a plan, and the plan is run under as many lists of choices as wanted.
 
 use std::collections::{HashMap, HashSet};
@@ -31,6 +31,8 @@ struct Node<'m> {
 #[derive(Debug)]
 pub struct Plan<'m> {
     main: Option<Graph<'m>>,
+    /// The bodies of functions in list order. Each is a graph with no initializers.
+    functions: Vec<Graph<'m>>,
     /// Do inputs of nested graphs have defaults? "at IR 3 only"
     nested_defaults: bool,
 }
@@ -72,13 +74,15 @@ pub fn run(model: &[u8], choices: &[u64]) -> Run {
 }
 
 impl<'m> Plan<'m> {
-    /// Reads up to the first field that cannot be read; a model without a graph has nothing to run.
+    /// Reads up to the first field that cannot be read; a model without a graph has only its functions to run.
     pub fn read(model: &'m [u8]) -> Plan<'m> {
         let of_model = |number: u32, kind: u8| {
-            fields(model, 0, model.len()).find(|field| field.number == number && field.kind == kind)
+            fields(model, 0, model.len()).filter(move |field| field.number == number && field.kind == kind)
         };
-        let main = of_model(7, 2).map(|field| Graph::read(model, field));
-        Plan { main, nested_defaults: of_model(1, 0).is_some_and(|ir_version| ir_version.value == 3) }
+        let main = of_model(7, 2).next().map(|field| Graph::read(model, field));
+        let functions = of_model(25, 2).map(|field| Graph::read_function(model, field)).collect();
+        let nested_defaults = of_model(1, 0).next().is_some_and(|ir_version| ir_version.value == 3);
+        Plan { main, functions, nested_defaults }
     }
 
     pub fn run(&self, choices: &[u64]) -> Run {
@@ -89,17 +93,15 @@ impl<'m> Plan<'m> {
             order: Vec::new(),
             run: Run::new(),
         };
-        if let Some(main) = &self.main {
-            if let Err(end) = runner.graph(main, true) {
-                runner.run.end = end;
-            }
+        if let Err(end) = runner.model(self) {
+            runner.run.end = end;
         }
         runner.run
     }
 
     /// The visits to bodies when each body is run once: how many choices a list can hold that matter.
     pub fn bodies(&self) -> usize {
-        self.main.as_ref().map_or(0, Graph::bodies)
+        self.main.iter().chain(&self.functions).map(Graph::bodies).sum()
     }
 }
 
@@ -112,6 +114,19 @@ impl<'m> Graph<'m> {
                 5 => read.initializers.push(held(model, field, 8)),
                 11 => read.inputs.push(held(model, field, 1)),
                 12 => read.outputs.push(held(model, field, 1)),
+                _ => {}
+            }
+        }
+        read
+    }
+
+    fn read_function(model: &'m [u8], function: Field) -> Graph<'m> {
+        let mut read = Graph::default();
+        for field in fields(model, function.start, function.end).filter(|field| field.kind == 2) {
+            match field.number {
+                4 => read.inputs.push(name(model, field)),
+                5 => read.outputs.push(name(model, field)),
+                7 => read.nodes.push(Node::read(model, field)),
                 _ => {}
             }
         }
@@ -176,6 +191,24 @@ struct Runner<'p, 'm> {
 type Step = Result<(), End>;
 
 impl<'m> Runner<'_, 'm> {
+    /// "after the main graph the runner runs each body alone, in list order: from no bound names"
+    fn model(&mut self, plan: &Plan<'m>) -> Step {
+        if let Some(main) = &plan.main {
+            self.graph(main, true)?;
+        }
+        for function in &plan.functions {
+            self.forget(0);
+            self.graph(function, false)?;
+        }
+        Ok(())
+    }
+
+    fn forget(&mut self, kept: usize) {
+        for name in self.order.drain(kept..) {
+            self.bound.remove(name);
+        }
+    }
+
     fn graph(&mut self, graph: &Graph<'m>, main: bool) -> Step {
         for input in &graph.inputs {
             self.bind(*input)?;
@@ -208,9 +241,7 @@ impl<'m> Runner<'_, 'm> {
             for _ in 0..times {
                 let before = self.order.len();
                 self.graph(body, false)?;
-                for name in self.order.drain(before..) {
-                    self.bound.remove(name);
-                }
+                self.forget(before);
             }
         }
         for output in &node.outputs {

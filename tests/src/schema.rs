@@ -1,4 +1,4 @@
-//! The rows of document 01 and its first walk.
+//! The rows of document 01 and of Req 01's functions, and the first walk.
 
 use crate::checker::Refusal;
 use crate::wire::{self, Padding, BYTES, FOUR, VARINT};
@@ -7,13 +7,14 @@ const WRONG_KIND: u64 = 4;
 const REPEATED: u64 = 5;
 const TOO_DEEP: u64 = 6;
 
-/// The main graph is at depth 1, and no graph may be at depth 9.
+/// The main graph is at depth 1, and so is a function; no graph may be at depth 9.
 pub const DEEPEST_GRAPH: u32 = 8;
 
 #[derive(Clone, Copy, Debug, PartialEq, Eq, Hash)]
 pub enum Message {
     Model,
     OperatorSetId,
+    Function,
     Graph,
     Node,
     Attribute,
@@ -65,8 +66,24 @@ const fn member(number: u32, form: Form) -> Row {
 
 use Form::{Bytes as S, Four as F, Open, PackableFour, PackableVarint, Varint as V};
 
-const MODEL: &[Row] = &[one(1, V), one(7, Open(Message::Graph)), many(8, Open(Message::OperatorSetId)), many(25, S)];
+const MODEL: &[Row] = &[
+    one(1, V),
+    one(7, Open(Message::Graph)),
+    many(8, Open(Message::OperatorSetId)),
+    many(25, Open(Message::Function)),
+];
 const OPERATOR_SET_ID: &[Row] = &[one(1, S), one(2, V)];
+const FUNCTION: &[Row] = &[
+    one(1, S),
+    many(4, S),
+    many(5, S),
+    many(6, S),
+    many(7, Open(Message::Node)),
+    many(9, Open(Message::OperatorSetId)),
+    one(10, S),
+    many(11, Open(Message::Attribute)),
+    one(13, S),
+];
 const GRAPH: &[Row] = &[
     many(1, Open(Message::Node)),
     one(2, S),
@@ -108,6 +125,7 @@ pub fn rows(message: Message) -> &'static [Row] {
     match message {
         Message::Model => MODEL,
         Message::OperatorSetId => OPERATOR_SET_ID,
+        Message::Function => FUNCTION,
         Message::Graph => GRAPH,
         Message::Node => NODE,
         Message::Attribute => ATTRIBUTE,
@@ -139,7 +157,7 @@ pub fn first_walk(model: &[u8]) -> Result<(), Refusal> {
     walk(model, Message::Model, 0, model.len(), 0)
 }
 
-/// Walks one message. `depth` is that of the graph around it, 0 outside the main graph.
+/// Walks one message. `depth` is that of the graph or function around it, 0 outside of both.
 fn walk(model: &[u8], message: Message, start: usize, end: usize, depth: u32) -> Result<(), Refusal> {
     // Bit n: the single field n has occurred; bit 0: some member of the message's "one of" has.
     let mut seen = 0u32;
@@ -164,7 +182,7 @@ fn walk(model: &[u8], message: Message, start: usize, end: usize, depth: u32) ->
         }
         let field = wire::value(model, tag, end, Padding::Refused).map_err(refuse)?;
         if let Some(Row { form: Form::Open(inner), .. }) = row {
-            let depth = if inner == Message::Graph { depth + 1 } else { depth };
+            let depth = if matches!(inner, Message::Graph | Message::Function) { depth + 1 } else { depth };
             if depth > DEEPEST_GRAPH {
                 return Err(refuse(TOO_DEEP));
             }

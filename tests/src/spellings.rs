@@ -209,8 +209,8 @@ mod tests {
 
     #[test]
     fn a_row_is_read_and_written_as_it_was() {
-        let rows = rows::document().into_iter().chain(rows::by_hand()).chain(rows::positions());
-        for row in rows.chain(aimed::small()) {
+        let rows = rows::document().into_iter().chain(rows::by_hand()).chain(rows::functions());
+        for row in rows.chain(rows::positions()).chain(aimed::small()) {
             let tree = read(&row.model, Message::Model, 0, row.model.len());
             assert_eq!(tree.encode(), row.model, "{}", row.name);
         }
@@ -225,8 +225,9 @@ mod tests {
         assert_eq!(tags[6], rows::hex("08 08 42 02 10 0D 3A 0C 12 01 67 0A 07 92 00 01 61 22 01 58"));
         assert_eq!(places(&tree, 0), [0, 2, 4, 6, 8, 11, 13, 16]);
         let mut tally = Tally::default();
-        rows::by_hand().iter().for_each(|row| tally.spellings(row).unwrap_or_else(|failure| panic!("{failure:?}")));
-        assert!(tally.cases > 20_000, "{} spellings", tally.cases);
+        let rows = rows::by_hand().into_iter().chain(rows::functions());
+        rows.for_each(|row| tally.spellings(&row).unwrap_or_else(|failure| panic!("{failure:?}")));
+        assert!(tally.cases > 50_000, "{} spellings", tally.cases);
         assert!(tally.numbers[&PADDED] > 10_000, "{} of them padded", tally.numbers[&PADDED]);
     }
 }

@@ -1,5 +1,6 @@
 //! Both checks beside those of another clone, in turn in one process: what a change did to their time. The other library answers as this
-//! one does: it is from Req 03 or later. One from before Req 06 refuses IR version 3, and is not timed on such models.
+//! one does: it is from Req 03 or later. One from before Req 06 refuses IR version 3, and one from before Req 01 functions; it is not
+//! timed on such models.
 
 use std::hint::black_box;
 use std::time::Duration;
@@ -55,9 +56,9 @@ pub fn rows(run: &Run, workloads: &[&Workload]) -> String {
 fn row(run: &Run, workload: &Workload) -> Vec<String> {
     eprintln!("{}", workload.name);
     let whole = run.given(workload, 1);
-    if refuses_version(&whole) {
+    if let Some(number) = refused_before(&whole) {
         let mut row = vec![NONE.to_string(); HEAD.len()];
-        (row[2], row[3]) = (workload.name.to_string(), "refused with 10".to_string());
+        (row[2], row[3]) = (workload.name.to_string(), format!("refused with {number}"));
         return row;
     }
     let quarter = workload.size.is_some().then(|| run.given(workload, 4));
@@ -117,6 +118,8 @@ fn call_indexed(given: &Given, cells: &mut [u32], extra: &mut [u32]) -> Answer {
     }
 }
 
-fn refuses_version(given: &Given) -> bool {
-    call_indexed(given, &mut vec![0; given.cells], &mut vec![0; given.extra]).refusal == 10
+/// 10 for an IR version, 15 for functions. Any other refusal is one that `accepts` does not let pass.
+fn refused_before(given: &Given) -> Option<u64> {
+    let answer = call_indexed(given, &mut vec![0; given.cells], &mut vec![0; given.extra]);
+    Some(answer.refusal).filter(|number| matches!(number, 10 | 15))
 }

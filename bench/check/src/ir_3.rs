@@ -5,17 +5,11 @@ use gate_tests::models::proto::{Tree, Value};
 use gate_tests::schema::Message;
 
 use crate::searches::{self, CUSTOM};
-use crate::workloads::{model_with, node, value_info, weights, FLOAT, GRAPH};
-
-/// ir_version comes first, in two bytes.
-fn at_3(mut model: Vec<u8>) -> Vec<u8> {
-    model[1] = 3;
-    model
-}
+use crate::workloads::{at_version, model_with, node, value_info, weights, FLOAT, GRAPH};
 
 /// Inputs of the main graph that each have a default.
 pub fn main_defaults(count: usize, seed: u64) -> Vec<u8> {
-    at_3(searches::defaults(count, seed))
+    at_version(3, searches::defaults(count, seed))
 }
 
 /// A node with a body that has these inputs, each with a default, and binds a name.
@@ -33,7 +27,7 @@ fn run(output: &str, inputs: impl Iterator<Item = String>, inner: &str) -> Tree 
 fn of_nodes(nodes: impl Iterator<Item = Tree>, last: &str) -> Vec<u8> {
     let graph = Tree::new(Message::Graph).text(2, "defaults").tree(11, value_info("x", FLOAT, &[1]));
     let graph = nodes.fold(graph, |graph, node| graph.tree(1, node));
-    at_3(model_with(&CUSTOM[..1], graph.tree(12, value_info(last, FLOAT, &[1]))))
+    at_version(3, model_with(&CUSTOM[..1], graph.tree(12, value_info(last, FLOAT, &[1]))))
 }
 
 /// Inputs of one body that each have a default.

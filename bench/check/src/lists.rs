@@ -3,25 +3,37 @@
 use gate_tests::parts::{all, first};
 use gate_tests::wire::{fields, Field, BYTES};
 
-/// Imports with a domain, initializers of the innermost open graph, named nodes of open graphs and attributes of open nodes. The index
-/// has no use for initializers of a body but at IR version 3; counting them at every version changes nothing for these models.
+/// Imports with a domain, initializers of the innermost open graph, named nodes of open graphs and attributes of open nodes; and in a
+/// function the functions up to it, its attributes and its imports. The index has no use for initializers of a body but at IR version 3;
+/// counting them at every version changes nothing for these models.
 pub fn open_at_once(model: &[u8]) -> usize {
     let whole = Field { place: 0, number: 0, kind: BYTES, value: 0, start: 0, end: model.len() };
-    let imports = all(model, whole, 8).filter(|import| holds(model, *import, 1)).count();
-    let Some(graph) = first(model, whole, 7) else {
-        return imports;
-    };
-    imports + in_graph(model, graph)
+    let main = first(model, whole, 7).map_or(0, |graph| in_graph(model, graph));
+    let functions = all(model, whole, 25).enumerate().map(|(at, function)| at + 1 + in_function(model, function));
+    imports(model, whole, 8) + main.max(functions.max().unwrap_or(0))
+}
+
+fn imports(model: &[u8], message: Field, number: u32) -> usize {
+    all(model, message, number).filter(|import| holds(model, *import, 1)).count()
 }
 
 fn holds(model: &[u8], message: Field, number: u32) -> bool {
     first(model, message, number).is_some_and(|field| field.start < field.end)
 }
 
+fn in_function(model: &[u8], function: Field) -> usize {
+    let attributes = all(model, function, 6).count() + all(model, function, 11).count();
+    attributes + imports(model, function, 9) + in_nodes(model, function, 7)
+}
+
 /// The most in this graph and below, at any of its nodes, or before them: the list of its initializers is closed then.
 fn in_graph(model: &[u8], graph: Field) -> usize {
-    let (mut named, mut most) = (0, all(model, graph, 5).count());
-    for node in all(model, graph, 1) {
+    all(model, graph, 5).count().max(in_nodes(model, graph, 1))
+}
+
+fn in_nodes(model: &[u8], message: Field, number: u32) -> usize {
+    let (mut named, mut most) = (0, 0);
+    for node in all(model, message, number) {
         named += usize::from(holds(model, node, 3));
         most = most.max(named + in_node(model, node));
     }

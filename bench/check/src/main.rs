@@ -12,6 +12,7 @@ mod clock;
 mod command;
 mod crafted;
 mod files;
+mod functions;
 mod given;
 mod ir_3;
 mod lists;

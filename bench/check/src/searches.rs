@@ -4,7 +4,8 @@ use gate_tests::buckets::colliding;
 use gate_tests::models::proto::{Item, Tree, Value};
 use gate_tests::schema::Message;
 
-use crate::workloads::{chain_of, int_attribute, model_with, node, unknown_fields, value_info, weights, FLOAT, GRAPH};
+use crate::workloads::{chain_of, import, int_attribute, model_with, node, unknown_fields};
+use crate::workloads::{value_info, weights, FLOAT, GRAPH};
 
 /// Domains that no runtime has: onnx::checker has no schema for their operators.
 pub const CUSTOM: [&str; 3] = ["com.example.a", "com.example.b", "com.example.c"];
@@ -32,7 +33,7 @@ pub fn imports(nodes: usize, _: u64) -> Vec<u8> {
     let mut model = Tree::new(Message::Model).number(1, 8);
     for domain in ["", CUSTOM[0], CUSTOM[1], CUSTOM[2]] {
         model.items.push(Item::raw(unknown_fields(nodes / 4)));
-        model.push(8, Value::Tree(Tree::new(Message::OperatorSetId).text(1, domain).number(2, 13)));
+        model.push(8, Value::Tree(import(domain)));
     }
     model.tree(7, graph.tree(12, value_info(&last, FLOAT, &[1]))).encode()
 }

@@ -5,7 +5,7 @@ use gate_tests::models::lists::{self, Entry};
 use gate_tests::models::proto::{put_varint, Item, Tree, Value};
 use gate_tests::schema::Message;
 
-use crate::{ir_3, searches};
+use crate::{functions, ir_3, searches};
 
 /// A model by its size, whatever the size counts. Of a size it has a half and a quarter, to see how the time grows.
 pub struct Workload {
@@ -13,28 +13,45 @@ pub struct Workload {
     pub make: fn(usize, u64) -> Vec<u8>,
     /// None: it has one size.
     pub size: Option<usize>,
-    /// Does it use domains beside the default one?
-    pub custom: bool,
+    /// Which domains it uses.
+    pub domains: Domains,
     /// Is the check given another seed than that for which it is made?
     pub other_seed: bool,
+}
+
+/// The default one, three more, or as many more as a function imports.
+#[derive(Clone, Copy)]
+pub enum Domains {
+    Default,
+    Custom,
+    Many,
 }
 
 const CHAIN: usize = 20_000;
 
 const fn of(name: &'static str, size: usize, make: fn(usize, u64) -> Vec<u8>) -> Workload {
-    Workload { name, make, size: Some(size), custom: false, other_seed: false }
+    Workload { name, make, size: Some(size), domains: Domains::Default, other_seed: false }
 }
 
 impl Workload {
     const fn custom(self) -> Workload {
-        Workload { custom: true, ..self }
+        Workload { domains: Domains::Custom, ..self }
     }
 
-    /// The operator list: L of document 01, and if need be the custom domains.
+    const fn importing_many(self) -> Workload {
+        Workload { domains: Domains::Many, ..self }
+    }
+
+    /// The operator list: L of document 01, and if need be other domains.
     pub fn operators(&self) -> Vec<u8> {
-        let custom = if self.custom { &searches::CUSTOM[..] } else { &[] };
-        let domains = std::iter::once(&"").chain(custom);
-        let entries = domains.map(|domain| Entry { domain: domain.as_bytes().to_vec(), lowest: 7, highest: 21 });
+        let mut domains = vec![String::new()];
+        if !matches!(self.domains, Domains::Default) {
+            domains.extend(searches::CUSTOM.map(String::from));
+        }
+        if matches!(self.domains, Domains::Many) {
+            domains.extend(functions::imported());
+        }
+        let entries = domains.into_iter().map(|domain| Entry { domain: domain.into(), lowest: 7, highest: 21 });
         lists::encode(&entries.collect::<Vec<_>>())
     }
 }
@@ -42,7 +59,7 @@ impl Workload {
 /// The one on which the command is measured too.
 pub const LARGEST: Workload = of("one initializer of 1.9 GB raw data", 1_900_000_000, |size, _| heavy(size, 0));
 
-pub const WORKLOADS: [Workload; 25] = [
+pub const WORKLOADS: [Workload; 33] = [
     Workload { size: None, ..of("small model, 6 nodes", 0, |_, _| small()) },
     of("chain of 20,000 nodes, unnamed", CHAIN, |size, _| chain(size, false)),
     of("chain of 20,000 nodes, named", CHAIN, |size, _| chain(size, true)),
@@ -58,6 +75,12 @@ pub const WORKLOADS: [Workload; 25] = [
     of("nested to depth 8, 20 towers of 254 graphs", 20, |size, _| nested(size)),
     of("20,000 nodes with a body that binds a name", CHAIN, searches::bodies).custom(),
     of("20,000 attributes in one node", CHAIN, searches::attributes).custom(),
+    of("20,000 functions", CHAIN, functions::names).custom(),
+    of("5,000 functions of four nodes", 5_000, functions::small).custom(),
+    of("a function of 20,000 nodes, named", CHAIN, functions::body).custom(),
+    of("a function of 20,000 nodes that use 400 imports", CHAIN, functions::imports).importing_many(),
+    of("a function with 20,000 attributes", CHAIN, functions::attributes).custom(),
+    of("a function with 20,000 attributes and a reference to each", CHAIN, functions::references).custom(),
     of("one initializer of 50 MB raw data", 50_000_000, |size, _| heavy(size, DATA)),
     LARGEST,
     of("hostile: 4,000,000 unknown fields", 4_000_000, |size, _| unknown(size)),
@@ -66,12 +89,14 @@ pub const WORKLOADS: [Workload; 25] = [
     of("hostile: one name of 10 MB, its last byte odd", 10_000_000, |size, _| long_name(&("n".repeat(size - 1) + "-"))),
     of("hostile: one name of 10 MB, not ASCII", 10_000_000, |size, _| long_name(&"层".repeat(size / 3))),
     of("hostile: 20,000 named nodes, one visible name", CHAIN, |size, _| idle(size)),
+    of("hostile: 20,000 functions of one name, apart by domain", CHAIN, functions::domains).custom(),
+    of("hostile: 20,000 functions of one name, apart by overload", CHAIN, functions::overloads).custom(),
     of("hostile: 20,000 names in one bucket, seed known", CHAIN, searches::crafted),
     Workload { other_seed: true, ..of("hostile: the same 20,000 names, another seed", CHAIN, searches::crafted) },
 ];
 
 pub const FLOAT: u64 = 1;
-const INT: u64 = 2;
+pub const INT: u64 = 2;
 pub const GRAPH: u64 = 5;
 const BOOL: u64 = 9;
 /// Each byte of weights.
@@ -86,11 +111,21 @@ pub fn model_with(domains: &[&str], graph: Tree) -> Vec<u8> {
     importing(domains).tree(7, graph).encode()
 }
 
-fn importing(domains: &[&str]) -> Tree {
+pub fn importing(domains: &[&str]) -> Tree {
     let mut model = Tree::new(Message::Model).number(1, 8);
     for domain in std::iter::once(&"").chain(domains) {
-        model.push(8, Value::Tree(Tree::new(Message::OperatorSetId).text(1, domain).number(2, 13)));
+        model.push(8, Value::Tree(import(domain)));
     }
+    model
+}
+
+pub fn import(domain: &str) -> Tree {
+    Tree::new(Message::OperatorSetId).text(1, domain).number(2, 13)
+}
+
+/// A model at another IR version, which comes first, in two bytes.
+pub fn at_version(version: u8, mut model: Vec<u8>) -> Vec<u8> {
+    model[1] = version;
     model
 }
 

@@ -66,7 +66,7 @@ impl Message {
 }
 
 /// A message that `write` fills.
-fn message(write: impl FnOnce(&mut Message)) -> Message {
+pub fn message(write: impl FnOnce(&mut Message)) -> Message {
     let mut m = Message::default();
     write(&mut m);
     m
@@ -206,6 +206,50 @@ pub fn nested(r: &mut Random, size: usize, deepest: u64) -> Message {
     }))
 }
 
+/// A function with attributes, one of them with a default, and small nodes.
+fn function(r: &mut Random) -> Message {
+    message(|f| {
+        f.bytes(1, name(r).as_bytes());
+        f.bytes(4, b"x");
+        f.bytes(5, b"y");
+        f.bytes(6, b"scale");
+        for _ in 0..1 + r.below(8) {
+            f.message(7, &small_node(r));
+        }
+        f.message(9, &message(|import| import.varint(2, 13)));
+        f.bytes(10, b"com.example");
+        f.message(11, &attribute(r));
+        f.bytes(13, b"tensor");
+    })
+}
+
+/// A model whose main graph has no nodes, and this in it besides.
+fn model_with(write: impl FnOnce(&mut Message)) -> Message {
+    let mut m = model(&message(|g| g.bytes(2, b"main")));
+    write(&mut m);
+    m
+}
+
+pub fn functions(r: &mut Random, size: usize) -> Message {
+    model_with(|m| {
+        while m.bytes.len() < size {
+            m.message(25, &function(r));
+        }
+    })
+}
+
+/// A function with graphs in graphs, in a node of it or in a default.
+pub fn nested_function(r: &mut Random, deepest: u64) -> Message {
+    let body = nested_graph(r, 2, deepest);
+    let holder = message(|a| a.message(6, &body));
+    let field = if r.below(2) == 0 {
+        message(|f| f.message(7, &node(r, |_, n| n.message(5, &holder))))
+    } else {
+        message(|f| f.message(11, &holder))
+    };
+    model_with(|m| m.message(25, &field))
+}
+
 /// One initializer whose raw data are all of the model.
 pub fn one_field(size: usize) -> Message {
     let tensor = message(|t| {
@@ -225,85 +269,4 @@ pub fn varints(r: &mut Random, size: usize, longest: u64) -> Message {
             m.fields += 1;
         }
     })
-}
-
-/// Any fields at all, some twice; a number of 2^29 is too large.
-fn anything(r: &mut Random, depth: u64) -> Message {
-    message(|m| {
-        for _ in 0..r.below(5) {
-            let number = match r.below(64) {
-                0 => (1 << 29) - r.below(2),
-                _ => 1 + r.number(5),
-            };
-            let wire = r.below(8);
-            for _ in 0..1 + r.below(2) {
-                match wire {
-                    0 | 1 => m.varint(number, r.number(64)),
-                    2 => m.fixed(number, &[1; 8]),
-                    3 => m.fixed(number, &[1; 4]),
-                    _ if depth == 0 => m.bytes(number, b""),
-                    _ => m.message(number, &anything(r, depth - 1)),
-                }
-            }
-        }
-    })
-}
-
-/// The fields that lead from the model to a message of each kind.
-const PATHS: [&[u64]; 11] = [
-    &[],
-    &[8],
-    &[7],
-    &[7, 1],
-    &[7, 1, 5],
-    &[7, 5],
-    &[7, 11],
-    &[7, 11, 2],
-    &[7, 11, 2, 1],
-    &[7, 11, 2, 1, 2],
-    &[7, 11, 2, 1, 2, 1],
-];
-
-/// A model with anything in a message of any kind.
-fn anywhere(r: &mut Random) -> Message {
-    let path = PATHS[r.below(11) as usize];
-    path.iter().rev().fold(anything(r, 2), |inner, &number| {
-        message(|m| m.message(number, &inner))
-    })
-}
-
-/// Lengthens the varint that may end at `at` by up to nine bytes.
-fn pad(r: &mut Random, bytes: &mut Vec<u8>, at: usize) {
-    bytes[at] |= 0x80;
-    let mut needless = vec![0x80; r.below(9) as usize];
-    needless.push(0);
-    bytes.splice(at + 1..at + 1, needless);
-}
-
-/// A small model, with up to four places changed.
-pub fn damaged(r: &mut Random) -> Vec<u8> {
-    let mut bytes = match r.below(8) {
-        0 => flat(r, 60),
-        1 => unknown(r, 60),
-        2 => {
-            let deepest = 2 + r.below(8);
-            nested(r, 1, deepest)
-        }
-        3 => one_field(20),
-        _ => anywhere(r),
-    }
-    .bytes;
-    for _ in 0..r.below(5) {
-        let at = r.below(bytes.len() as u64 + 1) as usize;
-        match r.below(6) {
-            0 => bytes.truncate(at),
-            1 => bytes.insert(at, r.next() as u8),
-            2 => bytes.insert(at, 0x80 | r.next() as u8),
-            _ if at == bytes.len() => {}
-            3 => bytes[at] = r.next() as u8,
-            4 => pad(r, &mut bytes, at),
-            _ => bytes[at] ^= 1 << r.below(8),
-        }
-    }
-    bytes
 }

@@ -1,5 +1,6 @@
 //! The proved first walk and varint reader against ones written by hand in Rust, timed in one process.
 //! A word on the command line picks the workloads whose names contain it.
+mod damage;
 mod generate;
 mod rattle;
 mod walker;
@@ -33,7 +34,7 @@ const COUNTED: [Workload; 2] = [
     }),
 ];
 
-const WALKED: [Workload; 4] = [
+const WALKED: [Workload; 5] = [
     workload("flat graph of small nodes", 1, || {
         generate::flat(&mut Random(3), SIZE)
     }),
@@ -42,6 +43,9 @@ const WALKED: [Workload; 4] = [
     }),
     workload("nested to depth 8", 1, || {
         generate::nested(&mut Random(5), SIZE, 8)
+    }),
+    workload("functions of small nodes", 1, || {
+        generate::functions(&mut Random(6), SIZE)
     }),
     workload("one bytes field", 1_000_000, || generate::one_field(SIZE)),
 ];
@@ -76,7 +80,7 @@ fn check_damaged() {
     let mut r = Random(0);
     let mut given = [0; 10];
     for _ in 0..DAMAGED {
-        let (answer, _) = agree(&generate::damaged(&mut r));
+        let (answer, _) = agree(&damage::damaged(&mut r));
         given[answer.number as usize] += 1;
     }
     // 7 and 8 are no refusals of the walk

@@ -1,4 +1,4 @@
-//! The first walk of document 01 as one would write it in Rust.
+//! The first walk of documents 01 and 02 as one would write it in Rust.
 
 /// The rules that the first walk can find broken, with document 01's numbers.
 #[derive(Clone, Copy)]
@@ -25,10 +25,11 @@ const I32: u64 = 5;
 
 const DEEPEST: u32 = 8;
 
-#[derive(Clone, Copy, PartialEq)]
+#[derive(Clone, Copy)]
 enum Kind {
     Model,
     OperatorSetId,
+    Function,
     Graph,
     Node,
     Attribute,
@@ -64,9 +65,14 @@ fn row(kind: Kind, number: u64) -> Row {
         (Model, 1) => Row(Once, V, None),
         (Model, 7) => Row(Once, S, Some(Graph)),
         (Model, 8) => Row(Many, S, Some(OperatorSetId)),
-        (Model, 25) => Row(Many, S, None),
+        (Model, 25) => Row(Many, S, Some(Function)),
         (OperatorSetId, 1) => Row(Once, S, None),
         (OperatorSetId, 2) => Row(Once, V, None),
+        (Function, 1 | 10 | 13) => Row(Once, S, None),
+        (Function, 4..=6) => Row(Many, S, None),
+        (Function, 7) => Row(Many, S, Some(Node)),
+        (Function, 9) => Row(Many, S, Some(OperatorSetId)),
+        (Function, 11) => Row(Many, S, Some(Attribute)),
         (Graph, 1) => Row(Many, S, Some(Node)),
         (Graph, 2) => Row(Once, S, None),
         (Graph, 5) => Row(Many, S, Some(Tensor)),
@@ -181,7 +187,7 @@ fn walk(model: &[u8], kind: Kind, depth: u32, start: usize, end: usize) -> Resul
         pos = inside + size as usize;
 
         if let Some(inner) = opens {
-            let depth = depth + u32::from(inner == Kind::Graph);
+            let depth = depth + u32::from(matches!(inner, Kind::Graph | Kind::Function));
             if depth > DEEPEST {
                 return Err(refuse(Rule::TooDeep));
             }

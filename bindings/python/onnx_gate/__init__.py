@@ -42,8 +42,8 @@ class Answer:
     It may lie behind `place`: fields are judged in another order than they stand in."""
     odd: int
     """Accepted: how many fields hold a name that is no identifier of C, as exporters write them: /encoder/MatMul_output_0. Counted is each
-    name of a graph, input, output, initializer, node and attribute, each op_type, input and output of a node, and each dim_param of the
-    main graph's inputs and outputs."""
+    name of a graph, function, input, output, initializer, node and attribute, each op_type, input and output of a node, and each dim_param
+    of the main graph's inputs and outputs."""
 
     @property
     def accepted(self) -> bool:
@@ -92,9 +92,9 @@ def check(
     What is not plain `bytes` is copied first: no change of it by others, and nothing that its class says, reaches the library.
 
     Memory, beside the model: 40 bytes for each name, for up to 65,536 names at first and for eight times more as long as there are
-    more; and 16 for each initializer, named node, attribute and import beyond as many as these names. That is next to nothing for models
-    that people make, which tensors fill; a file that is made for it can ask for 13.4 times its size, 28.7 GB at most. Of more than 4 MiB
-    only what a name is kept in is real. Where there is no memory that is a MemoryError, and no answer.
+    more; and 16 for each function, initializer, named node, attribute and import beyond as many as these names. That is next to
+    nothing for models that people make, which tensors fill; a file that is made for it can ask for 13.4 times its size, 28.7 GB at most.
+    Of more than 4 MiB only what a name is kept in is real. Where there is no memory that is a MemoryError, and no answer.
     """
     model, operators = copied(model), copied(operators)
     seed = int.from_bytes(os.urandom(8), "little") if seed is None else whole(seed, "seed", 0, _MOST)

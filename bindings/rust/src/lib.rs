@@ -36,13 +36,13 @@ pub const CELLS_PER_NAME: usize = 2;
 /// The three counts of an acceptance.
 #[derive(Clone, Copy, Debug, PartialEq, Eq)]
 pub struct Accepted {
-    /// Nodes in all graphs.
+    /// Nodes in all graphs and functions.
     pub nodes: u64,
-    /// The largest number of names visible together.
+    /// The largest number of names visible together, in the main graph or in a function.
     pub names: u64,
     /// Fields with a name that is no identifier of C, as exporters write them: `/encoder/MatMul_output_0`. Counted is each
-    /// name of a graph, input, output, initializer, node and attribute, each op_type, input and output of a node, and each
-    /// dim_param of the main graph's inputs and outputs.
+    /// name of a graph, function, input, output, initializer, node and attribute, each op_type, input and output of a
+    /// node, and each dim_param of the main graph's inputs and outputs.
     pub odd: u64,
 }
 
@@ -123,7 +123,7 @@ pub fn check_with(model: &[u8], operators: &[u8], cells: &mut [u32]) -> Result<A
 }
 
 /// The same answer for every `seed`, by an index in extra cells; refused with 65 where these are fewer than four times
-/// the cells. With `4 * (cells.len() / 2) + 2 + 4 * (model.len() / 7)` of them, if that is more, the time is linear, as
+/// the cells. With `4 * (cells.len() / 2) + 2 + 4 * (model.len() / 3)` of them, if that is more, the time is linear, as
 /// long as whoever makes the model does not know the seed. All cells of both kinds are zero afterwards, whatever they
 /// held.
 pub fn check_indexed(

@@ -5,7 +5,7 @@ use std::fmt;
 /// The one refusal that has a second place.
 pub(crate) const ALREADY_VISIBLE: u64 = 23;
 
-/// Why a model is refused, and where. The numbers are those of document 01, and 9, 43 and 65 of document 02.
+/// Why a model is refused, and where. The numbers are those of document 01, and 9, 41 to 43 and 65 of document 02.
 #[derive(Clone, Copy, Debug, PartialEq, Eq)]
 pub struct Refusal {
     pub number: u64,

@@ -12,11 +12,8 @@ pub const MEMORY: usize = 27 << 30;
 
 const CELL: usize = size_of::<u32>();
 
-/// A field that holds a visible name has at least a tag, a length and a byte.
+/// A field that holds a visible name, or one of a list, has at least a tag, a length and a byte.
 const LEAST_NAME: usize = 3;
-
-/// The bytes of an import, initializer, named node or attribute that is not refused before its name is kept, at least.
-const LEAST_ENTRY: usize = 7;
 
 /// The bytes of an entry of an operator list, at least.
 const LEAST_LISTED: usize = 10;
@@ -28,7 +25,7 @@ const NOTHING: [u8; 5] = [0, 0, 0, 1, 1];
 const IMPORTED_TWICE: u64 = 13;
 
 /// Up to this size a model gets what any model of its size can need; a larger one is skimmed.
-const SMALL: usize = 4096 * LEAST_ENTRY;
+const SMALL: usize = 9_600 * LEAST_NAME;
 
 /// Lists with more names than this get room only where the library comes so far as to read them.
 const SHORT: usize = 65_536;
@@ -41,8 +38,8 @@ const GROWTH: usize = 8;
 
 /// The cells of both kinds that a model can need.
 const MOST: usize = {
-    let cells = of_names(LARGEST_MODEL / LEAST_NAME);
-    cells + linear(cells, LARGEST_MODEL / LEAST_ENTRY)
+    let names = LARGEST_MODEL / LEAST_NAME;
+    of_names(names) + linear(of_names(names), names)
 };
 const _: () = assert!(CELL * MOST < MEMORY);
 
@@ -146,7 +143,7 @@ pub fn check(model: &[u8], operators: &[u8]) -> Result<Accepted, Refusal> {
 fn need(model: &[u8], operators: &[u8]) -> Need {
     let names = model.len() / LEAST_NAME;
     if model.len() <= SMALL {
-        return Need { names, free: model.len() / LEAST_ENTRY, ..Need::default() };
+        return Need { names, free: names, ..Need::default() };
     }
     if model.len() > LARGEST_MODEL {
         return Need::default();
@@ -156,8 +153,9 @@ fn need(model: &[u8], operators: &[u8]) -> Need {
         return Need::default();
     }
     // no import is kept that the operator list does not have
-    let imports = found.imports.min(operators.len() / LEAST_LISTED);
-    Need { names: found.names.min(names), imports, ..found }
+    let listed = operators.len() / LEAST_LISTED;
+    let (imports, own_imports) = (found.imports.min(listed), found.own_imports.min(listed));
+    Need { names: found.names.min(names), imports, own_imports, ..found }
 }
 
 /// Whether the model is refused before a name is kept, as the library says: under a list that allows nothing, and with

@@ -1,33 +1,37 @@
-//! How much of a model there is to remember, counted in one quick pass. It only sizes memory: the library judges, and
-//! its answer is the same whatever is counted here. Any bytes are survived, and nothing is allocated.
+//! How much of a model there is to remember, counted in one quick pass, and in two over the fields of a function. It
+//! only sizes memory: the library judges, and its answer is the same whatever is counted here. Any bytes are survived,
+//! and nothing is allocated.
 
 /// Upper bounds for a model that the wire rules let pass.
 #[derive(Clone, Copy, Debug, Default, PartialEq, Eq)]
 pub struct Need {
-    /// Names that are visible at once: inputs, initializers and node outputs.
+    /// Names that are visible at once: inputs, initializers and node outputs, of the main graph or of a function.
     pub names: usize,
-    /// Imports with a domain.
+    /// Imports of the model with a domain.
     pub imports: usize,
+    /// The same of a function, which are open beside those of the model.
+    pub own_imports: usize,
     /// Names of lists that are open at once and each have a visible name to them, so that they are no more than those:
     /// initializers of a graph, and named nodes with an output. The library lists the initializers of a nested graph at
     /// IR version 3 only; they are counted at every version, as the room for visible names has room for them.
     pub bound: usize,
-    /// Names of lists that are open at once and have none: attributes, and named nodes whose outputs are left out.
+    /// Names of lists that are open at once and have none: attributes, functions, and named nodes whose outputs are left
+    /// out.
     pub free: usize,
 }
 
 impl Need {
     /// Names of lists that are open at once in a walk whose cells hold so many visible names.
     pub fn lists(&self, names: usize) -> usize {
-        self.imports + self.bound.min(names) + self.free
+        self.imports + self.own_imports + self.bound.min(names) + self.free
     }
 }
 
 /// The library refuses deeper graphs before it remembers a name.
 const DEEPEST: usize = 8;
 
-/// The contents of an import, initializer, named node or attribute whose name is kept have at least the name or domain,
-/// in three bytes, and a number or an operator type.
+/// The contents of a function, import, initializer, named node or attribute whose name is kept have at least the name or
+/// domain, in three bytes, and a number or an operator type.
 const LEAST_CONTENTS: usize = 5;
 
 /// Counts up to the first byte that makes no sense: the library refuses such a model before it remembers a name. What it
@@ -38,11 +42,18 @@ pub fn skim(model: &[u8]) -> Need {
     skimmed.most
 }
 
-/// What was counted so far, and how much of `bound` and `free` is open where the pass stands. A list is closed with the
-/// message that it is a list of.
+/// What was counted so far, and how much is open where the pass stands. A list is closed with the message that it is a
+/// list of; names are added up in the main graph and in each function.
 #[derive(Default)]
 struct Skimmed {
     most: Need,
+    functions: usize,
+    open: Open,
+}
+
+#[derive(Clone, Copy, Default)]
+struct Open {
+    names: usize,
     bound: usize,
     free: usize,
 }
@@ -52,36 +63,65 @@ impl Skimmed {
     fn model(&mut self, message: &[u8]) -> Option<()> {
         for field in fields(message) {
             match field? {
-                (7, graph) => self.graph(graph, 1)?,
+                (7, graph) => {
+                    self.open = Open::default();
+                    self.graph(graph, 1)?;
+                }
                 (8, import) if can_be_kept(import) => self.most.imports += 1,
+                (25, function) => self.function(function)?,
                 _ => {}
+            }
+        }
+        Some(())
+    }
+
+    fn function(&mut self, message: &[u8]) -> Option<()> {
+        self.functions += usize::from(can_be_kept(message));
+        self.open = Open { free: self.functions, ..Open::default() };
+        let mut imports = 0;
+        for field in fields(message) {
+            match field? {
+                (4, name) => self.open.names += usize::from(!name.is_empty()),
+                (6, name) => self.open.free += usize::from(!name.is_empty()),
+                (9, import) => imports += usize::from(can_be_kept(import)),
+                (11, default) => self.open.free += usize::from(can_be_kept(default)),
+                _ => {}
+            }
+        }
+        self.most.own_imports = self.most.own_imports.max(imports);
+        self.keep();
+        // once its attributes are counted: their list is open below those of its nodes, wherever they stand
+        for field in fields(message) {
+            if let (7, node) = field? {
+                self.node(node, 1)?;
             }
         }
         Some(())
     }
 
     fn graph(&mut self, message: &[u8], depth: usize) -> Option<()> {
-        let (bound, free) = (self.bound, self.free);
+        let Open { bound, free, .. } = self.open;
         let mut initializers = 0;
         for field in fields(message) {
             match field? {
                 (1, node) => self.node(node, depth)?,
                 (5, initializer) => {
-                    self.most.names += 1;
+                    self.open.names += 1;
                     initializers += usize::from(can_be_kept(initializer));
                 }
-                (11, _) => self.most.names += 1,
+                (11, _) => self.open.names += 1,
                 _ => {}
             }
         }
         // their list is begun on those around the graph, and closed before that of its nodes is begun
         self.most.bound = self.most.bound.max(bound + initializers);
-        (self.bound, self.free) = (bound, free);
+        (self.open.bound, self.open.free) = (bound, free);
+        self.keep();
         Some(())
     }
 
     fn node(&mut self, message: &[u8], depth: usize) -> Option<()> {
-        let (bound, free) = (self.bound, self.free);
+        let Open { bound, free, .. } = self.open;
         let (mut named, mut outputs) = (false, 0);
         for field in fields(message) {
             match field? {
@@ -91,9 +131,9 @@ impl Skimmed {
                 _ => {}
             }
         }
-        self.most.names += outputs;
         let listed = usize::from(named && can_be_kept(message));
-        (self.bound, self.free) = if outputs > 0 { (bound + listed, free) } else { (bound, free + listed) };
+        let (bound, free) = if outputs > 0 { (bound + listed, free) } else { (bound, free + listed) };
+        self.open = Open { names: self.open.names + outputs, bound, free };
         self.keep();
         Some(())
     }
@@ -105,14 +145,15 @@ impl Skimmed {
                 _ => {}
             }
         }
-        self.free += usize::from(can_be_kept(message));
+        self.open.free += usize::from(can_be_kept(message));
         self.keep();
         Some(())
     }
 
     fn keep(&mut self) {
-        self.most.bound = self.most.bound.max(self.bound);
-        self.most.free = self.most.free.max(self.free);
+        self.most.names = self.most.names.max(self.open.names);
+        self.most.bound = self.most.bound.max(self.open.bound);
+        self.most.free = self.most.free.max(self.open.free);
     }
 }
 

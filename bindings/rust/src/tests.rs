@@ -2,6 +2,8 @@
 use super::operators::{self, ListFault};
 use super::*;
 
+mod functions;
+
 fn list() -> Vec<u8> {
     operators::write(&[("", 7, 21)]).unwrap()
 }
@@ -273,7 +275,7 @@ fn names_are_shown() {
 #[test]
 fn every_rule_is_said() {
     let numbers: Vec<u64> = RULES.iter().map(|r| r.number).collect();
-    let documents = [1..=16, 20..=35, 37..=38, 40..=40, 43..=43, 65..=65];
+    let documents = [1..=14, 16..=16, 20..=35, 37..=38, 40..=43, 65..=65];
     assert_eq!(numbers, documents.into_iter().flatten().collect::<Vec<u64>>());
     assert!(RULES.iter().all(|r| !r.name.is_empty() && !r.explanation.is_empty() && !r.explanation.contains('\n')));
     let refusal: Box<dyn std::error::Error> = Box::new(refused(30, 13));

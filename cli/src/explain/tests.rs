@@ -1,7 +1,13 @@
 use super::*;
 use crate::samples::{bytes, part, Random};
 
+mod functions;
+
 const READER: &str = "08 08 42 02 10 0D 3A 0E 12 01 67 0A 09 0A 01 61 12 01 61 22 01 58";
+
+/// A function with an attribute, a default, an import, an input, a node that refers to the attribute, and an output.
+const FUNCTION: &str = "08 08 42 02 10 0D 3A 03 12 01 67 CA 01 34 0A 01 71 32 01 6B 5A 08 0A 01 6D 18 01 A0 01 02 4A 02
+    10 0D 22 01 69 3A 18 0A 01 69 12 01 6F 1A 01 6E 22 01 58 2A 0A 0A 01 6B A0 01 02 AA 01 01 6B 2A 01 6F";
 
 fn explained(model: &[u8], number: u64, place: usize) -> Explanation<'_> {
     explained_both(model, number, place, None)
@@ -151,8 +157,10 @@ fn nothing_that_fails_here_goes_further() {
 fn any_bytes_at_any_place() {
     let mut r = Random(5);
     let sound = bytes(READER);
-    for round in 0..20_000 {
-        let mut model = sound.clone();
+    // two functions of one name
+    let functions = [bytes(FUNCTION), bytes(FUNCTION)[11..].to_vec()].concat();
+    for round in 0..40_000 {
+        let mut model = if round % 4 < 2 { sound.clone() } else { functions.clone() };
         for _ in 0..=r.below(4) {
             let at = r.below(model.len() as u64) as usize;
             model[at] = if round % 2 == 0 { r.below(256) } else { r.below(64) } as u8;
@@ -183,12 +191,12 @@ fn every_place_is_found() {
             let Err(refusal) = onnx_gate::check_with(&model, &list, &mut [0; 16]) else { continue };
             met.insert(refusal.number);
             let path = path::find(&model, refusal.place);
-            let known = path.exact || path.unreadable || lacks_a_field(refusal.number, &path);
+            let known = path.exact || path.unreadable || lacks_a_field(&model, refusal.number, &path);
             assert!(known, "{refusal} of {model:02x?}");
             let notes = found(&Given { model: &model, operators: &list, cells: 16 }, refusal).notes;
             let told = match refusal.number {
-                9 | 21 | 23 => notes.len() == 1,
-                43 => !notes.is_empty(),
+                9 | 21 | 23 | 33 | 42 => notes.len() == 1,
+                41 | 43 => !notes.is_empty(),
                 _ => true,
             };
             assert!(told, "{refusal} of {model:02x?}: {notes:?}");

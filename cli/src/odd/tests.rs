@@ -64,6 +64,37 @@ fn every_place() {
     assert_eq!(listed(&model, 15), (expected.map(String::from).to_vec(), None));
 }
 
+/// A function's own names, those of its attributes and those in its nodes; not its imports, its domain and its overload,
+/// nor what a default holds.
+#[test]
+fn every_place_of_a_function() {
+    let untested = part(2, &part(1, &part(2, &part(1, &part(2, b"/no")))));
+    let nested = [part(2, b"/n"), part(11, &[part(1, b"/i"), untested].concat())].concat();
+    let graph = part(5, &[part(1, b"g"), part(6, &nested)].concat());
+    let reference = part(5, &[part(1, b"r/"), part(21, b"/r")].concat());
+    let node = [part(1, b"/x"), part(2, b"/y"), part(4, b"Mat.Mul"), part(7, b"a.b"), graph, reference].concat();
+    let default = [part(1, b"/d"), part(5, &part(8, b"/t")), part(4, b"/s")].concat();
+    let names = [part(1, b"f:0"), part(4, b"/x"), part(4, b"x"), part(5, b"/y"), part(6, b"k-1")].concat();
+    let others = [part(9, &part(1, b"a.b")), part(10, b"a.b"), part(12, &part(1, b"/v")), part(13, b"/o")].concat();
+    let function = [names, part(7, &node), others, part(11, &default)].concat();
+    let model = [part(25, &part(1, b"f")), part(7, &part(2, b"/g")), part(25, &function)].concat();
+    let expected = [
+        r#"graph > name: "/g""#,
+        r#"functions[1] "f:0" > name: "f:0""#,
+        r#"functions[1] "f:0" > input[0]: "/x""#,
+        r#"functions[1] "f:0" > output[0]: "/y""#,
+        r#"functions[1] "f:0" > attribute[0]: "k-1""#,
+        r#"functions[1] "f:0" > node[0] (Mat.Mul) > input[0]: "/x""#,
+        r#"functions[1] "f:0" > node[0] (Mat.Mul) > output[0]: "/y""#,
+        r#"functions[1] "f:0" > node[0] (Mat.Mul) > op_type: "Mat.Mul""#,
+        r#"functions[1] "f:0" > node[0] (Mat.Mul) > attribute[0] "g" > g > name: "/n""#,
+        r#"functions[1] "f:0" > node[0] (Mat.Mul) > attribute[0] "g" > g > input[0] "/i" > name: "/i""#,
+        r#"functions[1] "f:0" > node[0] (Mat.Mul) > attribute[1] "r/" > name: "r/""#,
+        r#"functions[1] "f:0" > attribute_proto[0] "/d" > name: "/d""#,
+    ];
+    assert_eq!(listed(&model, 12), (expected.map(String::from).to_vec(), None));
+}
+
 /// The path to each name is the one that is found from its place.
 #[test]
 fn paths_agree() {
@@ -138,7 +169,8 @@ fn as_many_as_the_library_counts() {
 fn any_bytes() {
     let mut r = Random(3);
     let sound = bytes(
-        "08 08 42 02 10 0D 3A 1B 12 01 2F 0A 10 0A 01 2E 12 01 61 22 01 58 2A 05 0A 01 2F 32 00 62 04 0A 02 2F 2F",
+        "08 08 42 02 10 0D 3A 1B 12 01 2F 0A 10 0A 01 2E 12 01 61 22 01 58 2A 05 0A 01 2F 32 00 62 04 0A 02 2F 2F
+         CA 01 13 0A 01 2F 32 01 2E 5A 03 0A 01 2F 3A 06 12 01 2D 22 01 58",
     );
     for _ in 0..20_000 {
         let mut model = sound.clone();

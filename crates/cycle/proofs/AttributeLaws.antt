@@ -12,24 +12,27 @@ use Rattle.varint.specs.declared.Refusal.{Refusal}
 use Rattle.wire.specs.declared.Field.{Field}
 use Rattle.varint.specs.Lists.{lookup}
 use Rattle.varint.specs.Bytes.{Bytes}
-use Rattle.wire.specs.Message.{allOf, numberOf, message}
+use Rattle.wire.specs.Message.{allOf, numberOf, bytesOf, message}
 use Rattle.wire.specs.Answers.{contentsOf, soughtSays, soughtIn}
 use Rattle.wire.specs.declared.Cursor.{Cursor}
 use Rattle.wire.specs.declared.Sought.{Sought}
 use Rattle.wire.specs.declared.Sought.the-variants as sought
 use Rattle.wire.proofs.Along.{allFrom, along-contents}
 use Rattle.varint.proofs.Answers.{says}
-use Rattle.schema.specs.Numbers.{Attribute·type, Attribute·g, Attribute·graphs}
+use Rattle.schema.specs.Numbers.{Graph·node, Attribute·type, Attribute·ref-attr-name, Attribute·g, Attribute·graphs}
 use Rattle.rules.specs.Names.{Name, bodiesOf}
 use Rattle.rules.specs.Walk.{Walk, GraphJudge, leaving}
 use Rattle.rules.specs.Verdict.{fills}
-use Rattle.rules.specs.Node.{carriers, badValue, body}
+use Rattle.rules.specs.Node.{carriers, badAttribute, body}
 use Rattle.rules.specs.Count.{attributeNames, namesIn}
 use Rattle.schema.specs.declared.Kind.{Kind}
+use Rattle.scope.specs.Recall.{Minds}
+use Rattle.scope.specs.declared.remembered.Index.{Index}
 use Rattle.scope.specs.Scope.{walkIn, stepSays, counting, Countable, left, grows, Enters, counted, Keeps}
 use Rattle.values.specs.Answers.{tallySays, Addable}
 use Rattle.messages.specs.Heads.{attributeRules}
-use Rattle.messages.specs.Again.{inside, attributeAgain, graphAgain}
+use Rattle.messages.specs.Around.{inside, importNumber, attributesOf, importsOf}
+use Rattle.messages.specs.Again.{attributeAgain, graphAgain}
 use Rattle.messages.specs.declared.contexts.Surroundings.{Surroundings}
 use Rattle.values.specs.declared.tallies.Tally.{Tally}
 use Rattle.scope.specs.declared.scopes.Progress.{Progress}
@@ -78,6 +81,18 @@ abbrev pub Nested : (model : Bytes) (depth : ℕ) (around : Surroundings) (size 
 Nested model depth around size = λ v g. graphAgain model (fills size) depth (inside around) v g
 
 -- `inner` is what surrounds a graph inside it
+module _ {inner : Surroundings} (around : Surroundings) (e : inner ≡ inside around) where
+  pub inner-nodes : inner .nodes ≡ Graph·node
+  unfolding inside
+  inner-nodes = ap (λ (s : Surroundings). s .nodes) e
+
+  -- it goes by the same imports and attributes
+  pub inner-minds : (model : Bytes) {ix : Index} {top : ℕ} {cells extra : List ℕ}
+      → Minds model (importsOf model around) (attributesOf model around) ix top cells extra
+      → Minds model (importsOf model inner) (attributesOf model inner) ix top cells extra
+  unfolding inside importsOf importNumber attributesOf
+  inner-minds model m = rw e m
+
 module _ (model : Bytes) (depth : ℕ) {inner : Surroundings} (around : Surroundings) (e : inner ≡ inside around) where
   pub inner-judged : (size : ℕ) (w : Walk) (g : Field) {o : Judged Walk} → o ≡ graphAgain model (fills size) depth inner w g → o ≡ Nested model depth around size w g
   inner-judged size w g h = h ∙ ap (λ (i : Surroundings). graphAgain model (fills size) depth i w g) e
@@ -87,24 +102,24 @@ module _ (model : Bytes) (depth : ℕ) {inner : Surroundings} (around : Surround
   inner-countable q g h = rw e h
 
 -- there is room to count its own name
-pub attribute-fits : (model : Bytes) (inner : Field → List Bytes) (node : Field) (p : Progress) (f : Field) (t : Tally)
-    → ((w : Walk) → tallySays w t ≡ attributeRules model node w f)
+pub attribute-fits : (model : Bytes) (around : Surroundings) (inner : Field → List Bytes) (node : Field) (p : Progress) (f : Field) (t : Tally)
+    → ((w : Walk) → tallySays w t ≡ attributeRules model around node w f)
     → Countable p (attributeNames model inner f) → Addable (p .odd) t
 unfolding Countable
-attribute-fits model inner node p f t ruled room =
+attribute-fits model around inner node p f t ruled room =
     let names = attribute-names model inner f in
-    addable (p .odd) t (p .odd) 1 (omega arith) (λ l i. attribute-few model node f ruled i) (omega arith)
+    addable (p .odd) t (p .odd) 1 (omega arith) (λ l i. attribute-few model around node f ruled i) (omega arith)
 
 -- t is the tally of its rules, and s the step of that, which only counts
-pub attribute-first : (model : Bytes) (node : Field) (p : Progress) (f : Field) (t : Tally) → ((w : Walk) → tallySays w t ≡ attributeRules model node w f)
+pub attribute-first : (model : Bytes) (around : Surroundings) (node : Field) (p : Progress) (f : Field) (t : Tally) → ((w : Walk) → tallySays w t ≡ attributeRules model around node w f)
     → {s : Step} → s ≡ counting p t → {first : Progress} → s ≡ step.Went first
     → (first .used ≡ p .used) × (first .nodes ≡ p .nodes) × (first .odd ≤ p .odd + 1)
-attribute-first model node p f t ruled stepped k = counting-few p t 1 (λ l i. attribute-few model node f ruled i) stepped k
+attribute-first model around node p f t ruled stepped k = counting-few p t 1 (λ l i. attribute-few model around node f ruled i) stepped k
 
 module _ (model : Bytes) (depth : ℕ) (around : Surroundings) (node : Field) (cells : List ℕ) (p : Progress) (f : Field) (t : Tally)
-    (ruled : (w : Walk) → tallySays w t ≡ attributeRules model node w f) {s : Step} (stepped : s ≡ counting p t) where
+    (ruled : (w : Walk) → tallySays w t ≡ attributeRules model around node w f) {s : Step} (stepped : s ≡ counting p t) where
   abbrev Attribute : Judged Walk
-  Attribute = attributeAgain model (fills (length cells)) (Nested model depth around (length cells)) node (walkIn model cells p) f
+  Attribute = attributeAgain model (fills (length cells)) (Nested model depth around (length cells)) around node (walkIn model cells p) f
 
   abbrev Bodies : List Field → Walk → Judged Walk
   Bodies l w = each (body (Nested model depth around (length cells))) w l
@@ -115,7 +130,7 @@ module _ (model : Bytes) (depth : ℕ) (around : Surroundings) (node : Field) (c
 
   module _ {first : Progress} (k : s ≡ step.Went first) where
     started : (first .used ≡ p .used) × (first .nodes ≡ p .nodes) × (first .odd ≤ p .odd + 1)
-    started = attribute-first model node p f t ruled stepped k
+    started = attribute-first model around node p f t ruled stepped k
 
     module _ {kind : ℕ} (ek : kind ≡ numberOf Attribute·type (message model f)) {n : ℕ}
         (en : n ≡ elim (lookup kind carriers) [ none ↦ 0 | some m ↦ m ]) {b : Bool} (eb : b ≡ (eqb Attribute·g n || eqb Attribute·graphs n)) where
@@ -126,10 +141,10 @@ module _ (model : Bytes) (depth : ℕ) (around : Surroundings) (node : Field) (c
       own : n ≡ elim (lookup (numberOf Attribute·type (message model f)) carriers) [ none ↦ 0 | some m ↦ m ]
       own = en ∙ ap (λ (i : ℕ). elim (lookup i carriers) [ none ↦ 0 | some m ↦ m ]) ek
 
-      good : badValue (numberOf Attribute·type (message model f)) (message model f) ≡ false
+      good : badAttribute (bytesOf model Attribute·ref-attr-name (message model f)) (message model f) ≡ false
       unfolding stepSays
       good =
-          attribute-value model node (walkIn model cells p) (walkIn model cells first) f
+          attribute-value model around node (walkIn model cells p) (walkIn model cells first) f
           (sym (headed model cells p (Bodies (bodiesOf (message model f))) t (ruled (walkIn model cells p)) stepped k))
 
       pub attribute-plain : {kind : Kind} → Enters model kind p f → b ≡ false → Promised model Attribute cells cells p f (step.Went first)

@@ -20,7 +20,8 @@ use Rattle.rules.specs.Count.{valueNames, attributeNames, nodeNames, graphNames
 use Rattle.rules.proofs.Rules.{Adds}
 use Rattle.rules.proofs.NamesFew.{odds-few}
 use Rattle.messages.specs.Heads.{attributeRules}
-use Rattle.messages.specs.Again.{context, inside, fieldNames, tensorNames, openingNames, nodeRules, opening, closing, attributeAgain, nodeAgain, graphFrom, graphAgain}
+use Rattle.messages.specs.Around.{inside, context}
+use Rattle.messages.specs.Again.{fieldNames, tensorNames, openingNames, nodeRules, opening, closing, attributeAgain, nodeAgain, graphFrom, graphAgain}
 use Rattle.messages.specs.declared.contexts.Surroundings.{Surroundings}
 use Rattle.scope.proofs.StepLaws.{grew-few}
 use Rattle.parts.proofs.OpeningLaws.{opening-grew}
@@ -85,7 +86,7 @@ passing : (w : Walk) (n : ℕ) (o : Judged Walk) → ((v : Walk) → o ≡ pass 
 passing w n (pass v) h = h v refl
 passing w n (fail r) h = tt
 
-each-most : (names : Field → List Bytes) (step : Walk → Field → Judged Walk) → ((w : Walk) (f : Field) → AtMost w (length (names f)) (step w f))
+pub each-most : (names : Field → List Bytes) (step : Walk → Field → Judged Walk) → ((w : Walk) (f : Field) → AtMost w (length (names f)) (step w f))
     → (l : List Field) (w : Walk) → AtMost w (length (flatMap names l)) (each step w l)
 unfolding each flatMap
 each-most names step one [] w = omega arith
@@ -103,28 +104,28 @@ module _ (model : Bytes) (full : ℕ → Bool) where
     unfolding body leaving
     body-most w f = tells-bind (λ v. v .odd ≤ w .odd + length (inner f)) (λ v. v .odd ≤ w .odd + length (inner f)) Any (nested w f) _ (nest w f) (λ v h. h)
 
-    pub attribute-most : (node : Field) (w : Walk) (f : Field) → AtMost w (length (attributeNames model inner f)) (attributeAgain model full nested node w f)
+    pub attribute-most : (s : Surroundings) (node : Field) (w : Walk) (f : Field) → AtMost w (length (attributeNames model inner f)) (attributeAgain model full nested s node w f)
     unfolding attributeAgain
-    attribute-most node w f =
+    attribute-most s node w f =
         let R : Walk → Type 0 = λ v. v .odd ≤ w .odd + length (attributeNames model inner f) in
         let bodies = bodiesOf (message model f) in
         let n = attribute-names model inner f in
         let few = odds-few (bytesOf model Attribute·name (message model f) ∷ []) in
-        tells-bind (Adds w _) R Any (attributeRules model node w f) _ (attribute-adds model node w f) (λ t h.
+        tells-bind (Adds w _) R Any (attributeRules model s node w f) _ (attribute-adds model s node w f) (λ t h.
         tells-weaken (λ v. v .odd ≤ t .odd + length (flatMap inner bodies)) R Any Any (each (body nested) t bodies) (λ v i. omega arith) (λ r _. tt)
         (each-most inner (body nested) body-most bodies t))
 
-    pub node-most : (graph : Field) (w : Walk) (f : Field) → AtMost w (length (nodeNames model inner f)) (nodeAgain model full nested graph w f)
+    pub node-most : (s : Surroundings) (graph : Field) (w : Walk) (f : Field) → AtMost w (length (nodeNames model inner f)) (nodeAgain model full nested s graph w f)
     unfolding nodeAgain
-    node-most graph w f =
+    node-most s graph w f =
         let m = message model f in
         let R : Walk → Type 0 = λ v. v .odd ≤ w .odd + length (nodeNames model inner f) in
         let n = node-names model inner f in
-        tells-bind (λ v. v .odd ≤ w .odd + (2 + length (flatMap (fieldNames model) (allOf Node·input m)))) R Any (nodeRules model graph w f) _
-        (rules-odd model graph w f) (λ t h.
+        tells-bind (λ v. v .odd ≤ w .odd + (2 + length (flatMap (fieldNames model) (allOf Node·input m)))) R Any (nodeRules model s graph w f) _
+        (rules-odd model s graph w f) (λ t h.
         tells-bind (λ v. v .odd ≤ t .odd + length (flatMap (attributeNames model inner) (allOf Node·attribute m))) R Any
-        (each (attributeAgain model full nested f) t (allOf Node·attribute m)) _
-        (each-most (attributeNames model inner) (attributeAgain model full nested f) (attribute-most f) (allOf Node·attribute m) t) (λ u i.
+        (each (attributeAgain model full nested s f) t (allOf Node·attribute m)) _
+        (each-most (attributeNames model inner) (attributeAgain model full nested s f) (attribute-most s f) (allOf Node·attribute m) t) (λ u i.
         tells-weaken (λ v. v .odd ≤ u .odd + length (flatMap (fieldNames model) (allOf Node·output m))) R Any Any (closing model full u f)
         (λ v j. omega arith) (λ r _. tt) (passing u _ (closing model full u f) (λ v e. closing-odd model full u f v e))))
 
@@ -137,8 +138,8 @@ module _ (model : Bytes) (full : ℕ → Bool) where
         tells-bind (λ v. v .odd ≤ w .odd + length (openingNames model (s .main) f)) R Any (opening model full s w f) _
         (grew-few w 0 (openingNames model (s .main) f) (opening model full s w f) (opening-grew model full s w f)) (λ t h.
         tells-bind (λ v. v .odd ≤ t .odd + length (flatMap (nodeNames model inner) (allOf Graph·node g))) R Any
-        (each (nodeAgain model full nested f) t (allOf Graph·node g)) _
-        (each-most (nodeNames model inner) (nodeAgain model full nested f) (node-most f) (allOf Graph·node g) t) (λ u i.
+        (each (nodeAgain model full nested s f) t (allOf Graph·node g)) _
+        (each-most (nodeNames model inner) (nodeAgain model full nested s f) (node-most s f) (allOf Graph·node g) t) (λ u i.
         tells-weaken (λ v. v .odd ≤ u .odd + length (flatMap (valueNames model (s .main)) (allOf Graph·output g))) R Any Any
         (each (output model (context model s)) u (allOf Graph·output g)) (λ v j. omega arith) (λ r _. tt)
         (outputs-odd model (context model s) (allOf Graph·output g) u)))

@@ -35,7 +35,7 @@ pub record Going (model : Bytes) (number end start : ℕ) (names : Field → Lis
   pub inside : c .at ≤ end
   pub few : q .nodes + start ≤ p .nodes + c .at
 
-pub enters-low : {model : Bytes} {kind : Kind} {p : Progress} {f : Field} → Enters model kind p f → p .nodes ≤ f .start
+pub enters-low : {model : Bytes} {kind : Kind} {p : Progress} {f : Field} → Enters model kind p f → p .nodes + f .next ≤ f .start + 2 ^ 33
 enters-low n = let a = n .few in let b = n .tagged in omega arith
 
 -- the message that a field holds, from its start to its end
@@ -78,11 +78,12 @@ module _ {model : Bytes} {number end start : ℕ} {names : Field → List Bytes}
 
       -- the walk may go into the field
       pub going-enters : length model < 2 ^ 32 → {kind k : Kind} {m : Field} → Walked model kind m → record { at = start; end = end } ≡ contentsOf m
-          → kindOf (rowOf kind number) ≡ some k → p .nodes ≤ start
+          → kindOf (rowOf kind number) ≡ some k → p .nodes + end ≤ start + 2 ^ 33
           → Enters model k q f
       going-enters h w at row l =
           let low = along-from (g .adding .along) read e in
           let few = g .few in
+          let last = fits .3 in
           record { short = h; walked = adding-walked (g .adding) read e w at row; tagged = fits .1; ends = fits .2; few = omega arith }
 
       -- which is shorter than what it lies in

@@ -26,7 +26,8 @@ use Rattle.rules.specs.Count.{valueNames, nodeNames, namesIn}
 use Rattle.schema.specs.declared.Kind.{Kind}
 use Rattle.scope.specs.Scope.{scopeIn, walkIn, stepSays, counting, Countable, grows, Enters, counted, Keeps}
 use Rattle.values.specs.Answers.{tallySays, Addable}
-use Rattle.messages.specs.Again.{context, inside, openingNames, opening, nodeAgain, graphFrom, graphAgain}
+use Rattle.messages.specs.Around.{inside, context}
+use Rattle.messages.specs.Again.{openingNames, opening, nodeAgain, graphFrom, graphAgain}
 use Rattle.messages.specs.declared.contexts.Surroundings.{Surroundings}
 use Rattle.values.specs.declared.tallies.Tally.{Tally}
 use Rattle.scope.specs.declared.scopes.Progress.{Progress}
@@ -44,10 +45,10 @@ use Rattle.cycle.proofs.AttributeLaws.{Nested}
 
 -- no more is counted of a node than it has names
 pub nodes-count : (model : Bytes) (depth : ℕ) (around : Surroundings) (f : Field)
-    → Counts (nodeNames model (namesIn model depth false)) (λ size. nodeAgain model (fills size) (Nested model depth around size) f)
+    → Counts (nodeNames model (namesIn model depth false)) (λ size. nodeAgain model (fills size) (Nested model depth around size) around f)
 unfolding inside
 nodes-count model depth around f size w n =
-    node-most model (fills size) (Nested model depth around size) (namesIn model depth false) (again-most model (fills size) depth (inside around)) f w n
+    node-most model (fills size) (Nested model depth around size) (namesIn model depth false) (again-most model (fills size) depth (inside around)) around f w n
 
 -- the names of the graphs inside, and room to count those of the whole
 abbrev Inner : (model : Bytes) (depth : ℕ) → Field → List Bytes
@@ -82,7 +83,7 @@ module _ (model : Bytes) (depth : ℕ) (around : Surroundings) (cells : List ℕ
   Opening = opening model (fills (length cells)) around (walkIn model cells p) f
 
   abbrev Nodes : ℕ → Walk → List Field → Judged Walk
-  Nodes size v l = each (nodeAgain model (fills size) (Nested model (depth - 1) around size) f) v l
+  Nodes size v l = each (nodeAgain model (fills size) (Nested model (depth - 1) around size) around f) v l
 
   Outputs : Walk → Judged Walk
   Outputs n = each (output model (context model around)) n (allOf Graph·output (message model f))
@@ -98,7 +99,7 @@ module _ (model : Bytes) (depth : ℕ) (around : Surroundings) (cells : List ℕ
       where
         go : (d : ℕ) → (d ≡ 0 → ⊥)
             → (Opening
-            >>= λ v. each (nodeAgain model (fills (length cells)) (Nested model (d - 1) around (length cells)) f) v (allOf Graph·node (message model f))
+            >>= λ v. each (nodeAgain model (fills (length cells)) (Nested model (d - 1) around (length cells)) around f) v (allOf Graph·node (message model f))
             >>= λ n. each (output model (context model around)) n (allOf Graph·output (message model f)))
             ≡ graphAgain model (fills (length cells)) d around (walkIn model cells p) f
         go zero i = absurd (i refl)
@@ -113,7 +114,7 @@ module _ (model : Bytes) (depth : ℕ) (around : Surroundings) (cells : List ℕ
       unfolding stepSays walkIn
       graph-still = opening-stays model (fills (length cells)) around (walkIn model cells p) f (walkIn model later first) (sym (says (stepSays model later) opened k))
 
-      pub first-low : {kind : Kind} → Enters model kind p f → first .nodes ≤ f .start
+      pub first-low : {kind : Kind} → Enters model kind p f → first .nodes + f .next ≤ f .start + 2 ^ 33
       first-low n = let low = enters-low n in let still = graph-still in omega arith
 
       first-odd : first .odd ≤ p .odd + length (openingNames model (around .main) f)
@@ -144,7 +145,7 @@ module _ (model : Bytes) (depth : ℕ) (around : Surroundings) (cells : List ℕ
         -- the loop over the nodes
         module _ {now : List ℕ} {q : Progress} {c : Cursor}
             (g : Going model Graph·node (f .next) (f .start) (nodeNames model (Inner model depth))
-            (λ size. nodeAgain model (fills size) (Nested model (depth - 1) around size) f)
+            (λ size. nodeAgain model (fills size) (Nested model (depth - 1) around size) around f)
             (Nodes (length later) (walkIn model later first) (allFrom model Graph·node (f .next) (f .start))) later first now q c) where
           -- r is the tally of the outputs
           module _ (r : Tally) (ruled : (k : Context) (w : Walk) → k .main ≡ around .main → w .scope ≡ scopeIn model now (q .used)
@@ -161,7 +162,7 @@ module _ (model : Bytes) (depth : ℕ) (around : Surroundings) (cells : List ℕ
 
           module _ {a : Sought} (read : soughtSays a ≡ soughtIn model Graph·node (c .end) (c .at)) where
             module _ {d : Field} {next : Cursor} (e : a ≡ sought.Found d next) {last : List ℕ} (t : Step)
-                (judged : stepSays model last t ≡ nodeAgain model (fills (length now)) (Nested model (depth - 1) around (length now)) f (walkIn model now q) d)
+                (judged : stepSays model last t ≡ nodeAgain model (fills (length now)) (Nested model (depth - 1) around (length now)) around f (walkIn model now q) d)
                 (on : grows q t) (held : Keeps (q .used) now last) where
               pub nodes-stop : {x : Refusal} → t ≡ step.Refused x → Promised model Graph cells last p f t
               nodes-stop i =

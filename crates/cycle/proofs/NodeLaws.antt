@@ -23,7 +23,8 @@ use Rattle.rules.specs.Count.{attributeNames, nodeNames, namesIn}
 use Rattle.schema.specs.declared.Kind.{Kind}
 use Rattle.scope.specs.Scope.{scopeIn, walkIn, stepSays, counting, Countable, grows, Enters, counted, Keeps}
 use Rattle.values.specs.Answers.{tallySays, Addable}
-use Rattle.messages.specs.Again.{inside, fieldNames, nodeRules, closing, attributeAgain, nodeAgain}
+use Rattle.messages.specs.Around.{inside}
+use Rattle.messages.specs.Again.{fieldNames, nodeRules, closing, attributeAgain, nodeAgain}
 use Rattle.messages.specs.declared.contexts.Surroundings.{Surroundings}
 use Rattle.values.specs.declared.tallies.Tally.{Tally}
 use Rattle.scope.specs.declared.scopes.Progress.{Progress}
@@ -45,7 +46,7 @@ use Rattle.cycle.proofs.AttributeLaws.{Nested}
 pub node-low : {model : Bytes} {number : ℕ} {names : Field → List Bytes} {rule : Adder} {o : Judged Walk}
     {first : List ℕ} {p : Progress} {cells : List ℕ} {q : Progress} {c : Cursor} {f : Field}
     → Going model number (f .next) (f .start) names rule o first p cells q c → {kind : Kind} → Enters model kind p f
-    → q .nodes < 2 ^ 32
+    → q .nodes ≤ 2 ^ 33
 node-low g n =
     let few = going-few g in
     let low = enters-low n in
@@ -60,40 +61,40 @@ module _ (model : Bytes) (depth : ℕ) (p : Progress) (f : Field) (room : Counta
   unfolding Countable
   node-inputs-room = let names = node-names model (namesIn model depth false) f in omega arith
 
-  pub node-fits : (graph : Field) (scope : List Name) (t : Tally) → ((w : Walk) → w .scope ≡ scope → tallySays w t ≡ nodeRules model graph w f) → Addable (p .odd) t
+  pub node-fits : (around : Surroundings) (graph : Field) (scope : List Name) (t : Tally) → ((w : Walk) → w .scope ≡ scope → tallySays w t ≡ nodeRules model around graph w f) → Addable (p .odd) t
   unfolding Countable
-  node-fits graph scope t ruled =
+  node-fits around graph scope t ruled =
       let names = node-names model (namesIn model depth false) f in
       addable (p .odd) t (p .odd) (2 + length (flatMap (fieldNames model) (allOf Node·input (message model f)))) (omega arith)
-      (λ l i. rules-few model graph f scope ruled i) (omega arith)
+      (λ l i. rules-few model around graph f scope ruled i) (omega arith)
 
 -- no more is counted of an attribute than it has names
 pub attributes-count : (model : Bytes) (depth : ℕ) (around : Surroundings) (f : Field)
-    → Counts (attributeNames model (namesIn model depth false)) (λ size. attributeAgain model (fills size) (Nested model depth around size) f)
+    → Counts (attributeNames model (namesIn model depth false)) (λ size. attributeAgain model (fills size) (Nested model depth around size) around f)
 unfolding inside
 attributes-count model depth around f size w a =
-    attribute-most model (fills size) (Nested model depth around size) (namesIn model depth false) (again-most model (fills size) depth (inside around)) f w a
+    attribute-most model (fills size) (Nested model depth around size) (namesIn model depth false) (again-most model (fills size) depth (inside around)) around f w a
 
 -- t is the tally of its rules, and s the step of that, which only counts
-pub node-first : (model : Bytes) (graph : Field) (scope : List Name) (p : Progress) (f : Field) (t : Tally)
-    → ((w : Walk) → w .scope ≡ scope → tallySays w t ≡ nodeRules model graph w f)
+pub node-first : (model : Bytes) (around : Surroundings) (graph : Field) (scope : List Name) (p : Progress) (f : Field) (t : Tally)
+    → ((w : Walk) → w .scope ≡ scope → tallySays w t ≡ nodeRules model around graph w f)
     → {s : Step} → s ≡ counting p t → {first : Progress} → s ≡ step.Went first
     → (first .used ≡ p .used) × (first .nodes ≡ p .nodes)
     × (first .odd ≤ p .odd + (2 + length (flatMap (fieldNames model) (allOf Node·input (message model f)))))
-node-first model graph scope p f t ruled stepped k = counting-few p t _ (λ l i. rules-few model graph f scope ruled i) stepped k
+node-first model around graph scope p f t ruled stepped k = counting-few p t _ (λ l i. rules-few model around graph f scope ruled i) stepped k
 
 module _ (model : Bytes) (depth : ℕ) (around : Surroundings) (graph : Field) (cells : List ℕ) (p : Progress) (f : Field) (t : Tally)
-    (ruled : (w : Walk) → w .scope ≡ scopeIn model cells (p .used) → tallySays w t ≡ nodeRules model graph w f) {s : Step} (stepped : s ≡ counting p t) where
+    (ruled : (w : Walk) → w .scope ≡ scopeIn model cells (p .used) → tallySays w t ≡ nodeRules model around graph w f) {s : Step} (stepped : s ≡ counting p t) where
   abbrev Node : Judged Walk
-  Node = nodeAgain model (fills (length cells)) (Nested model depth around (length cells)) graph (walkIn model cells p) f
+  Node = nodeAgain model (fills (length cells)) (Nested model depth around (length cells)) around graph (walkIn model cells p) f
 
   abbrev Attributes : List Field → Walk → Judged Walk
-  Attributes l w = each (attributeAgain model (fills (length cells)) (Nested model depth around (length cells)) f) w l
+  Attributes l w = each (attributeAgain model (fills (length cells)) (Nested model depth around (length cells)) around f) w l
 
   Closed : Judged Walk → Judged Walk
   Closed o = o >>= λ v. closing model (fills (length cells)) v f
 
-  here : tallySays (walkIn model cells p) t ≡ nodeRules model graph (walkIn model cells p) f
+  here : tallySays (walkIn model cells p) t ≡ nodeRules model around graph (walkIn model cells p) f
   unfolding walkIn
   here = ruled (walkIn model cells p) refl
 
@@ -104,7 +105,7 @@ module _ (model : Bytes) (depth : ℕ) (around : Surroundings) (graph : Field) (
   module _ {first : Progress} (k : s ≡ step.Went first) where
     begun : (first .used ≡ p .used) × (first .nodes ≡ p .nodes)
         × (first .odd ≤ p .odd + (2 + length (flatMap (fieldNames model) (allOf Node·input (message model f)))))
-    begun = node-first model graph (scopeIn model cells (p .used)) p f t ruled stepped k
+    begun = node-first model around graph (scopeIn model cells (p .used)) p f t ruled stepped k
 
     node-by : Closed (Attributes (allFrom model Node·attribute (f .next) (f .start)) (walkIn model cells first)) ≡ Node
     unfolding nodeAgain Closed contentsOf
@@ -121,7 +122,7 @@ module _ (model : Bytes) (depth : ℕ) (around : Surroundings) (graph : Field) (
     -- the loop over the attributes
     module _ {later : List ℕ} {q : Progress} {c : Cursor}
         (g : Going model Node·attribute (f .next) (f .start) (attributeNames model (namesIn model depth false))
-        (λ size. attributeAgain model (fills size) (Nested model depth around size) f)
+        (λ size. attributeAgain model (fills size) (Nested model depth around size) around f)
         (Attributes (allFrom model Node·attribute (f .next) (f .start)) (walkIn model cells first)) cells first later q c) where
       -- and then those of the outputs
       pub closing-countable : Countable p (nodeNames model (namesIn model depth false) f)
@@ -136,7 +137,7 @@ module _ (model : Bytes) (depth : ℕ) (around : Surroundings) (graph : Field) (
       module _ {a : Sought} (read : soughtSays a ≡ soughtIn model Node·attribute (c .end) (c .at)) where
         module _ {d : Field} {next : Cursor} (e : a ≡ sought.Found d next) {last : List ℕ} (r : Step)
             (judged : stepSays model last r
-            ≡ attributeAgain model (fills (length later)) (Nested model depth around (length later)) f (walkIn model later q) d) (more : grows q r)
+            ≡ attributeAgain model (fills (length later)) (Nested model depth around (length later)) around f (walkIn model later q) d) (more : grows q r)
             (kept : Keeps (q .used) later last) where
           pub attributes-stop : {x : Refusal} → r ≡ step.Refused x → Promised model Node cells last p f r
           unfolding Closed

@@ -11,7 +11,8 @@ ghost use Rattle.index.specs.Listing.{Listed};
 ghost use Rattle.headers.specs.Earlier.{earlierIn};
 ghost use Rattle.scope.specs.Scope.{walkIn, stepSays, grows, counted, Enters, Countable, Keeps};
 ghost use Rattle.scope.specs.Recall.{Minds, Minded};
-ghost use Rattle.messages.specs.Again.{inside, attributeAgain, nodeAgain, graphAgain};
+ghost use Rattle.messages.specs.Around.{inside, importsOf, attributesOf};
+ghost use Rattle.messages.specs.Again.{attributeAgain, nodeAgain, graphAgain};
 use index::Listing;
 use messages::Surroundings;
 use nodes::attribute_head;
@@ -50,8 +51,9 @@ pub fn graph(
     f: Field,
 ) -> Step
     requires { ⌜ Enters (now model) Graph p f ⌝ }
-    requires { ⌜ Minds (now model) ix top (now cells) (now extra) ⌝ }
+    requires { ⌜ Minds (now model) (importsOf (now model) s) (attributesOf (now model) s) ix top (now cells) (now extra) ⌝ }
     requires { ⌜ Countable p (namesIn (now model) left (s .main) f) ⌝ }
+    requires { ⌜ s .nodes ≡ Graph·node ⌝ }
     ensures answer { λ r. ⌜ stepSays (now (model .entry)) (now (cells .exit)) r ≡ graphAgain (now (model .entry)) (fills (length (now (cells .entry)))) left s (walkIn (now (model .entry)) (now (cells .entry)) p) f ⌝ }
     ensures grown { λ r. ⌜ grows p r ⌝ }
     ensures counts { λ r. ⌜ counted f p r ⌝ }
@@ -87,8 +89,8 @@ pub fn graph(
     }
 }
 
-// "Node: op_type (27, 21); 28; a nonempty node name (21, 29); inputs; attributes; 34; outputs."
-fn node(
+// "Node: op_type (27, 21); 28; a nonempty node name (21, 29); inputs; attributes; 34; outputs." Of a graph, or of a function: `graph` is the one that has it.
+pub fn node(
     model: &[u8],
     cells: &mut [u32],
     extra: &mut [u32],
@@ -101,16 +103,16 @@ fn node(
     f: Field,
 ) -> Step
     requires { ⌜ Enters (now model) Node p f ⌝ }
-    requires { ⌜ Minds (now model) ix (l .top) (now cells) (now extra) ⌝ }
-    requires { ⌜ Listed (now model) (ix .seed) (drop (ix .split) (now extra)) l (earlierIn (now model) Graph·node Node·name graph f) ⌝ }
+    requires { ⌜ Minds (now model) (importsOf (now model) s) (attributesOf (now model) s) ix (l .top) (now cells) (now extra) ⌝ }
+    requires { ⌜ Listed (now model) (ix .seed) (drop (ix .split) (now extra)) l (earlierIn (now model) (s .nodes) Node·name graph f) ⌝ }
     requires { ⌜ Countable p (nodeNames (now model) (namesIn (now model) left false) f) ⌝ }
-    ensures answer { λ r. ⌜ stepSays (now (model .entry)) (now (cells .exit)) r ≡ nodeAgain (now (model .entry)) (fills (length (now (cells .entry)))) (λ v g. graphAgain (now (model .entry)) (fills (length (now (cells .entry)))) left (inside s) v g) graph (walkIn (now (model .entry)) (now (cells .entry)) p) f ⌝ }
+    ensures answer { λ r. ⌜ stepSays (now (model .entry)) (now (cells .exit)) r ≡ nodeAgain (now (model .entry)) (fills (length (now (cells .entry)))) (λ v g. graphAgain (now (model .entry)) (fills (length (now (cells .entry)))) left (inside s) v g) s graph (walkIn (now (model .entry)) (now (cells .entry)) p) f ⌝ }
     ensures grown { λ r. ⌜ grows p r ⌝ }
     ensures counts { λ r. ⌜ counted f p r ⌝ }
     ensures kept { λ _. ⌜ Keeps (p .used) (now (cells .entry)) (now (cells .exit)) ⌝ }
     ensures memory { λ _. ⌜ Minded (now (model .entry)) ix (l .top) (now (cells .exit)) (now (extra .entry)) (now (extra .exit)) ⌝ }
 {
-    let headed = counting(p, node_rules(model, cells, extra, ix, l, p.used, graph, f));
+    let headed = counting(p, node_rules(model, cells, extra, ix, l, p.used, s, graph, f));
     let Step::Went(first) = headed else {
         return headed;
     };
@@ -150,16 +152,16 @@ fn attribute(
     f: Field,
 ) -> Step
     requires { ⌜ Enters (now model) Attribute p f ⌝ }
-    requires { ⌜ Minds (now model) ix (l .top) (now cells) (now extra) ⌝ }
+    requires { ⌜ Minds (now model) (importsOf (now model) s) (attributesOf (now model) s) ix (l .top) (now cells) (now extra) ⌝ }
     requires { ⌜ Listed (now model) (ix .seed) (drop (ix .split) (now extra)) l (earlierIn (now model) Node·attribute Attribute·name n f) ⌝ }
     requires { ⌜ Countable p (attributeNames (now model) (namesIn (now model) left false) f) ⌝ }
-    ensures answer { λ r. ⌜ stepSays (now (model .entry)) (now (cells .exit)) r ≡ attributeAgain (now (model .entry)) (fills (length (now (cells .entry)))) (λ v g. graphAgain (now (model .entry)) (fills (length (now (cells .entry)))) left (inside s) v g) n (walkIn (now (model .entry)) (now (cells .entry)) p) f ⌝ }
+    ensures answer { λ r. ⌜ stepSays (now (model .entry)) (now (cells .exit)) r ≡ attributeAgain (now (model .entry)) (fills (length (now (cells .entry)))) (λ v g. graphAgain (now (model .entry)) (fills (length (now (cells .entry)))) left (inside s) v g) s n (walkIn (now (model .entry)) (now (cells .entry)) p) f ⌝ }
     ensures grown { λ r. ⌜ grows p r ⌝ }
     ensures counts { λ r. ⌜ counted f p r ⌝ }
     ensures kept { λ _. ⌜ Keeps (p .used) (now (cells .entry)) (now (cells .exit)) ⌝ }
     ensures memory { λ _. ⌜ Minded (now (model .entry)) ix (l .top) (now (cells .exit)) (now (extra .entry)) (now (extra .exit)) ⌝ }
 {
-    let headed = counting(p, attribute_head(model, extra, ix, l, n, f));
+    let headed = counting(p, attribute_head(model, extra, ix, l, s, n, f));
     let Step::Went(first) = headed else {
         return headed;
     };

@@ -2,3 +2,4 @@
 mod graphs;
 
 pub use graphs::graph;
+pub use graphs::node;

@@ -11,12 +11,12 @@ use Rattle.wire.specs.declared.Sought.{Sought}
 use Rattle.wire.specs.declared.Sought.the-variants as sought
 use Rattle.varint.specs.Bytes.{Bytes, same, member}
 use Rattle.wire.specs.Order.{Ordered}
-use Rattle.wire.specs.Message.{allOf, bytesOf, message}
+use Rattle.wire.specs.Message.{allOf, text, bytesOf, message}
 use Rattle.wire.specs.Answers.{contentsOf, soughtSays, soughtIn}
 use Rattle.varint.proofs.Answers.{says}
 use Rattle.varint.proofs.Lists.{or-swap}
 use Rattle.wire.proofs.Along.{allFrom, Onward, all-none, all-some}
-use Rattle.headers.specs.Earlier.{before, namesIn}
+use Rattle.headers.specs.Earlier.{before, namesIn, textsIn}
 
 -- ---- fields before a place
 
@@ -46,6 +46,15 @@ before-all lo hi (f ∷ l) o = before-here hi f l (omega arith) ∙ ap (λ (m : 
 
 -- ---- the names in them
 
+pub member-append : (x : Bytes) (a b : List Bytes) → member x (a ++ b) ≡ (member x a || member x b)
+unfolding member
+member-append x [] b = refl
+member-append x (y ∷ a) b = ap (λ (t : Bool). same x y || t) (member-append x a b) ∙ sym (or-assoc (same x y) (member x a) (member x b))
+  where
+    or-assoc : (p q r : Bool) → ((p || q) || r) ≡ (p || (q || r))
+    or-assoc true q r = refl
+    or-assoc false q r = refl
+
 pub names-last : (named : Field → Bytes) (x : Bytes) (pre : List Field) (f : Field) → member x (map named (pre ++ (f ∷ []))) ≡ (same x (named f) || member x (map named pre))
 unfolding member
 names-last named x [] f = refl
@@ -66,6 +75,19 @@ pub reread-all : (model : Bytes) (number name place : ℕ) (text : Bytes) (m : F
     ≡ member text (namesIn model name (before place (allOf number (message model m))))
 unfolding allFrom allOf message namesIn contentsOf
 reread-all model number name place text m e = rw e refl
+
+pub reread-texts : (model : Bytes) (number place : ℕ) (name : Bytes) (m : Field) {c : Cursor}
+    → c ≡ contentsOf m
+    → member name (map (text model) (before place (allFrom model number (c .end) (c .at))))
+    ≡ member name (textsIn model (before place (allOf number (message model m))))
+unfolding allFrom allOf message textsIn contentsOf
+reread-texts model number place name m e = rw e refl
+
+-- nothing stands before the first place
+pub before-none : (lo hi : ℕ) (l : List Field) → Ordered lo hi l → before lo l ≡ []
+unfolding before
+before-none lo hi [] o = refl
+before-none lo hi (f ∷ l) o = before-past lo f l (o .0)
 
 module _ {model : Bytes} {number end : ℕ} {named : Field → Bytes} {place : ℕ} {text : Bytes} {o : Bool} {c : Cursor}
     (q : Rereading model number end named place text o c) {r : Sought} (read : soughtSays r ≡ soughtIn model number (c .end) (c .at)) where

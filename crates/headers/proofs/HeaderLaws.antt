@@ -19,7 +19,8 @@ use Rattle.varint.proofs.Passing.{pass-same, passed-bind, passed-seq}
 use Rattle.varint.proofs.Refusing.{when-broken, when-kept}
 use Rattle.schema.specs.Numbers.{Model·ir-version, Model·graph, Model·opset-import, Model·functions}
 use Rattle.schema.specs.Answers.{silent}
-use Rattle.rules.specs.Header.{opsetImport, header}
+use Rattle.rules.specs.Import.{opsetImport}
+use Rattle.rules.specs.Header.{header}
 use Rattle.headers.specs.Imports.{importsIn}
 use Rattle.values.specs.Answers.{rulingSays}
 use Rattle.headers.specs.Imported.{Outlined, rulingOf, headed, holds}
@@ -63,9 +64,9 @@ module _ (i : Imports) {r : Heading} (q : Ruling) (e : r ≡ headed i q) where
       go ruling.Kept = refl
       go (ruling.Refused x) = refl
 
-  pub headed-holds : {x : Refusal} → q ≡ ruling.Refused x → (model : Bytes) (seed : ℕ) (lists : List ℕ) → holds model seed lists r
+  pub headed-holds : {x : Refusal} → q ≡ ruling.Refused x → (model : Bytes) (n : ℕ) (m : Field) (seed top : ℕ) (lists : List ℕ) → holds model n m seed top lists r
   unfolding holds headed
-  headed-holds k model seed lists = rw (e ∙ ap (headed i) k) tt
+  headed-holds k model n m seed top lists = rw (e ∙ ap (headed i) k) tt
 
 module _ {h : Heading} where
   pub refused-heading : {x : Refusal} → h ≡ heading.Refused x → rulingOf h ≡ ruling.Refused x
@@ -75,9 +76,6 @@ module _ {h : Heading} where
   pub imported-heading : {i : Imports} → h ≡ heading.Imported i → rulingOf h ≡ ruling.Kept
   unfolding rulingOf
   imported-heading e = ap rulingOf e
-
-  pub holds-as : {g : Heading} → h ≡ g → (model : Bytes) (seed : ℕ) (lists : List ℕ) → holds model seed lists h → holds model seed lists g
-  holds-as e model seed lists k = subst (λ (x : Heading). holds model seed lists x) e k
 
 -- ---- the header: m is the whole model, n its version, b whether it is one of those that are judged
 
@@ -109,12 +107,9 @@ module _ (model list : Bytes) {m : Field} (em : m ≡ whole model) {n : ℕ} (en
     abbrev Each : Judged (List Bytes)
     Each = each (opsetImport model list) [] (allOf Model·opset-import (message model m))
 
-    abbrev Last : Judged (List Bytes)
-    Last = Each >>= λ imports. refuse 15 at: placeOf Model·functions (message model m) when: present (firstOf Model·functions (message model m)) >> pass imports
-
     graphed : header model list (message model m)
         ≡ (refuse 11 at: m .place when: not (present (firstOf Model·graph (message model m)))
-        >> (refuse 12 at: m .place when: isEmpty (allOf Model·opset-import (message model m)) >> Last))
+        >> (refuse 12 at: m .place when: isEmpty (allOf Model·opset-import (message model m)) >> Each))
     unfolding header message
     graphed = when-kept 10 _ _ (version k)
 
@@ -127,55 +122,24 @@ module _ (model list : Bytes) {m : Field} (em : m ≡ whole model) {n : ℕ} (en
       unfolding firstOf
       imported e = no-first (allOf Model·opset-import (message model m)) ∙ ap not (sym ei ∙ e)
 
-      importing : header model list (message model m) ≡ (refuse 12 at: m .place when: isEmpty (allOf Model·opset-import (message model m)) >> Last)
+      importing : header model list (message model m) ≡ (refuse 12 at: m .place when: isEmpty (allOf Model·opset-import (message model m)) >> Each)
       importing = graphed ∙ when-kept 11 _ _ (ap not (sym eg ∙ l))
 
       pub header-import : i ≡ false → refused 12 (m .place) ≡ Answer
       unfolding silent _>>=_
       header-import e = answers (importing ∙ when-broken 12 (m .place) _ (imported e))
 
-      last : i ≡ true → header model list (message model m) ≡ Last
+      last : i ≡ true → header model list (message model m) ≡ Each
       last j = importing ∙ when-kept 12 _ _ (imported j)
 
-      -- r is the ruling on the imports, h whether there are functions
-      module _ (j : i ≡ true) (r : Ruling) (ruled : rulingSays r ≡ silent (each (opsetImport model list) [] (All model))) where
-        judged : rulingSays r ≡ silent Each
-        judged = ruled ∙ ap (λ (f : Field). silent (each (opsetImport model list) [] (allOf Model·opset-import (message model f)))) (sym em)
-
-        pub header-imports-refused : {x : Refusal} → r ≡ ruling.Refused x → rulingSays r ≡ Answer
-        unfolding silent _>>=_
-        header-imports-refused u =
-            ruled ∙ ruled-refused ruled u
-            ∙ answers
-            (last j
-            ∙ ap (λ (o : Judged (List Bytes)). o
-            >>= λ imports. refuse 15 at: placeOf Model·functions (message model m) when: present (firstOf Model·functions (message model m))
-            >> pass imports) (silent-fails Each (ruled-refused judged u)))
-
-        module _ (u : r ≡ ruling.Kept) {h : Bool} (eh : h ≡ present (firstOf Model·functions (message model m))) where
-          whole-header : header model list (message model m)
-              ≡ (refuse 15 at: placeOf Model·functions (message model m) when: present (firstOf Model·functions (message model m))
-              >> pass (silent-passes Each (ruled-kept judged u) .0))
-          unfolding _>>=_
-          whole-header =
-              last j
-              ∙ ap (λ (o : Judged (List Bytes)). o
-              >>= λ imports. refuse 15 at: placeOf Model·functions (message model m) when: present (firstOf Model·functions (message model m))
-              >> pass imports) (silent-passes Each (ruled-kept judged u) .1)
-
-          pub header-functions : h ≡ true → {p : ℕ} → p ≡ placeOf Model·functions (message model m) → refused 15 p ≡ Answer
-          unfolding silent _>>=_
-          header-functions v e = ap (λ (q : ℕ). refused 15 q) e ∙ answers (whole-header ∙ when-broken 15 (placeOf Model·functions (message model m)) _ (sym eh ∙ v))
-
-          pub header-kept : h ≡ false → pass tt ≡ Answer
-          unfolding silent _>>=_
-          header-kept v = answers (whole-header ∙ when-kept 15 (placeOf Model·functions (message model m)) _ (sym eh ∙ v))
+      -- r is the ruling on the imports
+      pub header-imported : i ≡ true → (r : Ruling) → rulingSays r ≡ silent Each → rulingSays r ≡ Answer
+      header-imported j r ruled = ruled ∙ answers (last j)
 
 -- the domains that a header passes on are those that the model imports
 pub header-imports : (model list : Bytes) (imports : List Bytes) → header model list (message model (whole model)) ≡ pass imports → (x : Bytes)
-    → member x imports ≡ member x (importsIn model)
+    → member x imports ≡ member x (importsIn model Model·opset-import (whole model))
 unfolding header importsIn
 header-imports model list imports e x =
     let after12 = passed-seq _ _ imports (passed-seq _ _ imports (passed-seq _ _ imports e .1) .1) .1 in
-    let p = passed-bind _ _ imports after12 in
-    ap (member x) (sym (pass-same (p .0) imports (passed-seq _ _ imports (p .2) .1))) ∙ imports-agree model list (All model) (p .0) (p .1) x
+    imports-agree model list (All model Model·opset-import (whole model)) imports after12 x

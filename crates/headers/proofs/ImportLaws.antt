@@ -1,15 +1,13 @@
--- The imports of a model, one after the other: those so far, and the loop over them.
-use Prim.Native.Nat.{ℕ, _-_, _<_}
+-- Imports, one after the other: those so far, and the loop over them.
+use Prim.Native.Nat.{ℕ, _-_, _≤_, _<_}
 use native.Mathlib.Omega.{arith}
 use mathlib.Core.Path.{_≡_, refl, sym, ap, subst, _∙_}
 use mathlib.Core.Bool.{Bool, true, false, not, _||_}
 use mathlib.Core.List.{List, [], _∷_, _++_, map, append-assoc, append-nil}
-use lib.ListN.{length}
 use Rattle.varint.specs.Outcome.{pass, _>>=_, _>>_, each, Judged, refused, refuse_at:_when:_}
 use Rattle.varint.specs.Bytes.{Bytes, same, member}
-use Rattle.wire.specs.Message.{allOf, numberOf, bytesOf, message, whole}
+use Rattle.wire.specs.Message.{allOf, numberOf, bytesOf, message}
 use Rattle.wire.specs.Order.{Ordered}
-use Rattle.wire.specs.Outline.{Starts}
 use Rattle.wire.specs.Answers.{contentsOf, soughtSays, soughtIn}
 use Rattle.varint.specs.declared.Refusal.{Refusal}
 use Rattle.wire.specs.declared.Field.{Field}
@@ -23,12 +21,12 @@ use Rattle.varint.proofs.Refusing.{when-broken, when-kept}
 use Rattle.varint.proofs.Answers.{says}
 use Rattle.wire.proofs.Along.{allFrom, Onward, all-none, all-some}
 use Rattle.operators.specs.Operators.{domain, allows}
-use Rattle.schema.specs.Numbers.{Model·opset-import, OperatorSetId·domain, OperatorSetId·version}
+use Rattle.schema.specs.Numbers.{OperatorSetId·domain, OperatorSetId·version}
 use Rattle.schema.specs.Answers.{silent}
-use Rattle.rules.specs.Header.{opsetImport}
+use Rattle.rules.specs.Import.{opsetImport}
 use Rattle.headers.specs.Earlier.{before}
-use Rattle.headers.specs.Imports.{importOf, importsIn, importsBefore}
-use Rattle.headers.proofs.EarlierLaws.{before-split, before-all, names-last, Rereading}
+use Rattle.headers.specs.Imports.{importOf, importsIn, importsBefore, ImportsFrom}
+use Rattle.headers.proofs.EarlierLaws.{before-split, before-all, names-last}
 use Rattle.index.specs.Table.{Indexed}
 use Rattle.index.specs.Memory.{known, tableOf}
 use Rattle.index.specs.Listing.{Held}
@@ -42,49 +40,49 @@ use Rattle.headers.proofs.Silent.{silent-fails, silent-passes}
 use Rattle.values.proofs.RulingLaws.{ruled-kept, ruled-refused}
 use Rattle.rules.proofs.Matching.{each-append}
 
--- ---- the imports of a model
+-- ---- the imports in the fields `number` of a message
 
-module _ (model : Bytes) where
+module _ (model : Bytes) (number : ℕ) (m : Field) where
   abbrev pub All : List Field
-  All = allOf Model·opset-import (message model (whole model))
+  All = allOf number (message model m)
 
   abbrev From : ℕ → List Field
-  From pos = allFrom model Model·opset-import (length model) pos
+  From pos = allFrom model number (m .next) pos
 
-  from-start : All ≡ From 0
-  unfolding allOf message whole allFrom
-  from-start = refl
+  pub imports-from : ImportsFrom model number m (m .start)
+  unfolding allOf message
+  imports-from = refl
 
-  all-ordered : Ordered 0 (length model) All
-  unfolding whole
-  all-ordered = all-of-ordered model Model·opset-import (whole model)
+  all-ordered : Ordered (m .start) (m .next) All
+  all-ordered = all-of-ordered model number m
 
-  -- the end of the model stands after all of them
-  pub imports-all : importsBefore model (length model) ≡ importsIn model
+  -- the end of the message stands after all of them
+  pub imports-all : importsBefore model number m (m .next) ≡ importsIn model number m
   unfolding importsBefore importsIn
-  imports-all = ap (map (importOf model)) (before-all 0 (length model) All all-ordered)
+  imports-all = ap (map (importOf model)) (before-all (m .start) (m .next) All all-ordered)
 
 -- ---- from one import to the next: a is the answer of the search at the cursor
 
-module _ (model : Bytes) (c : Cursor) (ends : c .end ≡ length model) {a : Sought} (read : soughtSays a ≡ soughtIn model Model·opset-import (c .end) (c .at)) where
-  none-left : a ≡ sought.Missing → From model (c .at) ≡ []
+module _ (model : Bytes) (number : ℕ) (m : Field) (c : Cursor) (ends : c .end ≡ m .next) {a : Sought}
+    (read : soughtSays a ≡ soughtIn model number (c .end) (c .at)) where
+  none-left : a ≡ sought.Missing → From model number m (c .at) ≡ []
   unfolding soughtSays
-  none-left e = all-none model Model·opset-import (length model) (c .at) (says soughtSays (rw ends at read) e)
+  none-left e = all-none model number (m .next) (c .at) (says soughtSays (rw ends at read) e)
 
   module _ {f : Field} {next : Cursor} (e : a ≡ sought.Found f next) where
-    gone : Onward model Model·opset-import (length model) (c .at) f next
+    gone : Onward model number (m .next) (c .at) f next
     unfolding soughtSays
-    gone = all-some model Model·opset-import (length model) (c .at) (says soughtSays (rw ends at read) e)
+    gone = all-some model number (m .next) (c .at) (says soughtSays (rw ends at read) e)
 
-    pub import-falls : length model - next .at < length model - c .at
+    pub import-falls : m .next - next .at < m .next - c .at
     import-falls = let far = gone .onward in let near = gone .inside in omega arith
 
 -- ---- reading them again: whether x is imported before a place
 
-pub imports-again : (model : Bytes) (place : ℕ) (x : Bytes)
-    → Rereading model Model·opset-import (length model) (importOf model) place x (member x (importsBefore model place)) (contentsOf (whole model))
-unfolding importsBefore whole contentsOf
-imports-again model place x = record { ends = refl; rest = ap (λ (l : List Field). member x (map (importOf model) (before place l))) (sym (from-start model)) }
+pub imports-again : (model : Bytes) (number place : ℕ) (x : Bytes) (m : Field) {c : Cursor} → c ≡ contentsOf m
+    → member x (map (importOf model) (before place (allFrom model number (c .end) (c .at)))) ≡ member x (importsBefore model number m place)
+unfolding importsBefore contentsOf allFrom allOf message
+imports-again model number place x m e = rw e refl
 
 pub same-import : (model x : Bytes) (f : Field) {y : Bytes} → y ≡ bytesOf model OperatorSetId·domain (message model f) → {b : Bool}
     → b ≡ same x (domain y)
@@ -165,39 +163,41 @@ module _ (model list : Bytes) where
 
 -- ---- the loop over the imports: those of `pre` are kept, the rest stand from the cursor on
 
-pub record Importing (model list : Bytes) (c : Cursor) : Type 0 where
+pub record Importing (model list : Bytes) (number : ℕ) (m : Field) (c : Cursor) : Type 0 where
   pub pre : List Field
   pub imports : List Bytes
-  pub ends : c .end ≡ length model
-  pub split : All model ≡ pre ++ From model (c .at)
+  pub ends : c .end ≡ m .next
+  pub split : All model number m ≡ pre ++ From model number m (c .at)
   pub past : each (opsetImport model list) [] pre ≡ pass imports
 
-pub importing-start : (model list : Bytes) {pos : ℕ} → Starts model (whole model) Model·opset-import pos → Importing model list (record { at = pos; end = length model })
-unfolding each whole allFrom
-importing-start model list k = record { pre = []; imports = []; ends = refl; split = sym (k .same); past = refl }
+pub importing-start : (model list : Bytes) (number : ℕ) (m : Field) {pos : ℕ} → ImportsFrom model number m pos
+    → Importing model list number m (record { at = pos; end = m .next })
+unfolding each allFrom
+importing-start model list number m k = record { pre = []; imports = []; ends = refl; split = sym k; past = refl }
 
-module _ {model list : Bytes} {c : Cursor} (q : Importing model list c) where
-  left : each (opsetImport model list) [] (All model) ≡ each (opsetImport model list) (q .imports) (From model (c .at))
+module _ {model list : Bytes} {number : ℕ} {m : Field} {c : Cursor} (q : Importing model list number m c) where
+  left : each (opsetImport model list) [] (All model number m) ≡ each (opsetImport model list) (q .imports) (From model number m (c .at))
   unfolding _>>=_
   left =
       ap (each (opsetImport model list) []) (q .split)
-      ∙ each-append (opsetImport model list) (q .pre) (From model (c .at)) []
-      ∙ ap (λ (o : Judged (List Bytes)). o >>= λ t. each (opsetImport model list) t (From model (c .at))) (q .past)
+      ∙ each-append (opsetImport model list) (q .pre) (From model number m (c .at)) []
+      ∙ ap (λ (o : Judged (List Bytes)). o >>= λ t. each (opsetImport model list) t (From model number m (c .at))) (q .past)
 
-module _ {model list : Bytes} {c : Cursor} (q : Importing model list c) {a : Sought} (read : soughtSays a ≡ soughtIn model Model·opset-import (c .end) (c .at)) where
-  pub importing-end : a ≡ sought.Missing → pass tt ≡ silent (each (opsetImport model list) [] (All model))
+module _ {model list : Bytes} {number : ℕ} {m : Field} {c : Cursor} (q : Importing model list number m c) {a : Sought}
+    (read : soughtSays a ≡ soughtIn model number (c .end) (c .at)) where
+  pub importing-end : a ≡ sought.Missing → pass tt ≡ silent (each (opsetImport model list) [] (All model number m))
   unfolding silent each _>>=_
-  importing-end e = sym (ap silent (left q ∙ ap (each (opsetImport model list) (q .imports)) (none-left model c (q .ends) read e)))
+  importing-end e = sym (ap silent (left q ∙ ap (each (opsetImport model list) (q .imports)) (none-left model number m c (q .ends) read e)))
 
   module _ {f : Field} {next : Cursor} (e : a ≡ sought.Found f next) where
-    here : All model ≡ q .pre ++ (f ∷ From model (next .at))
-    here = q .split ∙ ap (λ (l : List Field). q .pre ++ l) (gone model c (q .ends) read e .list)
+    here : All model number m ≡ q .pre ++ (f ∷ From model number m (next .at))
+    here = q .split ∙ ap (λ (l : List Field). q .pre ++ l) (gone model number m c (q .ends) read e .list)
 
-    seen : before (f .place) (All model) ≡ q .pre
-    seen = ap (before (f .place)) here ∙ before-split 0 (length model) (q .pre) f (From model (next .at)) (subst (Ordered 0 (length model)) here (all-ordered model))
+    seen : before (f .place) (All model number m) ≡ q .pre
+    seen = ap (before (f .place)) here ∙ before-split (m .start) (m .next) (q .pre) f (From model number m (next .at)) (subst (Ordered (m .start) (m .next)) here (all-ordered model number m))
 
     -- r is the ruling on this import
-    module _ (r : Ruling) (ruled : rulingSays r ≡ silent (opsetImport model list (importsBefore model (f .place)) f)) where
+    module _ (r : Ruling) (ruled : rulingSays r ≡ silent (opsetImport model list (importsBefore model number m (f .place)) f)) where
       agreed : rulingSays r ≡ silent (opsetImport model list (q .imports) f)
       unfolding importsBefore
       agreed =
@@ -205,24 +205,24 @@ module _ {model list : Bytes} {c : Cursor} (q : Importing model list c) {a : Sou
           ∙ ap (λ (l : List Field). silent (opsetImport model list (map (importOf model) l) f)) seen
           ∙ sym (opset-agrees model list (q .imports) (map (importOf model) (q .pre)) f (imports-agree model list (q .pre) (q .imports) (q .past)))
 
-      pub importing-stops : {x : Refusal} → r ≡ ruling.Refused x → rulingSays r ≡ silent (each (opsetImport model list) [] (All model))
+      pub importing-stops : {x : Refusal} → r ≡ ruling.Refused x → rulingSays r ≡ silent (each (opsetImport model list) [] (All model number m))
       unfolding silent each _>>=_
       importing-stops {x} k =
           ruled
           ∙ ruled-refused ruled k
-          ∙ sym (ap silent (left q ∙ ap (each (opsetImport model list) (q .imports)) (gone model c (q .ends) read e .list) ∙ ap
-          (λ (o : Judged (List Bytes)). o >>= λ t. each (opsetImport model list) t (From model (next .at)))
+          ∙ sym (ap silent (left q ∙ ap (each (opsetImport model list) (q .imports)) (gone model number m c (q .ends) read e .list) ∙ ap
+          (λ (o : Judged (List Bytes)). o >>= λ t. each (opsetImport model list) t (From model number m (next .at)))
           (silent-fails (opsetImport model list (q .imports) f) (ruled-refused agreed k))))
 
-      pub importing-goes : r ≡ ruling.Kept → Importing model list next
+      pub importing-goes : r ≡ ruling.Kept → Importing model list number m next
       unfolding each _>>=_
       importing-goes k =
           let p = silent-passes (opsetImport model list (q .imports) f) (ruled-kept agreed k) in
           record {
             pre = q .pre ++ (f ∷ []);
             imports = p .0;
-            ends = gone model c (q .ends) read e .ends;
-            split = here ∙ sym (append-assoc (q .pre) (f ∷ []) (From model (next .at)));
+            ends = gone model number m c (q .ends) read e .ends;
+            split = here ∙ sym (append-assoc (q .pre) (f ∷ []) (From model number m (next .at)));
             past = each-append (opsetImport model list) (q .pre) (f ∷ []) []
                 ∙ ap (λ (o : Judged (List Bytes)). o >>= λ t. each (opsetImport model list) t (f ∷ [])) (q .past)
                 ∙ ap (λ (o : Judged (List Bytes)). o >>= λ t. pass t) (p .1);
@@ -230,43 +230,46 @@ module _ {model list : Bytes} {c : Cursor} (q : Importing model list c) {a : Sou
 
 -- ---- the same loop, with what is kept of the imports behind it
 
-pub record Keeping (model list : Bytes) (seed : ℕ) (first lists : List ℕ) (i : Imports) (c : Cursor) : Type 0 where
-  pub importing : Importing model list c
+pub record Keeping (model list : Bytes) (number : ℕ) (m : Field) (seed top : ℕ) (first lists : List ℕ) (i : Imports) (c : Cursor) : Type 0 where
+  pub importing : Importing model list number m c
   pub imported : Imported model seed lists i (map (importOf model) (importing .pre))
-  pub held : Held model seed 0 first lists
+  pub held : Held model seed top first lists
+  pub above : top ≤ i .listing .top
 
-pub keeping-start : (model list : Bytes) (seed : ℕ) {pos : ℕ} → Starts model (whole model) Model·opset-import pos → {lists : List ℕ}
-    → Indexed model seed (tableOf lists) (known lists)
-    → Keeping model list seed lists lists (record { listing = record { base = 0; top = 0; whole = true }; default = false })
-    (record { at = pos; end = length model })
+pub keeping-start : (model list : Bytes) (number : ℕ) (m : Field) (seed top : ℕ) {pos : ℕ} → ImportsFrom model number m pos → {lists : List ℕ}
+    → Indexed model seed (tableOf lists) (known lists) → top ≤ known lists
+    → Keeping model list number m seed top lists lists (record { listing = record { base = top; top = top; whole = true }; default = false })
+    (record { at = pos; end = m .next })
 unfolding importing-start member
-keeping-start model list seed begins ix = record {
-  importing = importing-start model list begins;
-  imported = record { listed = listed-begin ix (omega arith) true; default = refl };
-  held = held-all ix (omega arith);
+keeping-start model list number m seed top begins ix h = record {
+  importing = importing-start model list number m begins;
+  imported = record { listed = listed-begin ix h true; default = refl };
+  held = held-all ix h;
+  above = omega arith;
 }
 
-module _ {model list : Bytes} {seed : ℕ} {first lists : List ℕ} {i : Imports} {c : Cursor} (q : Keeping model list seed first lists i c)
-    {a : Sought} (read : soughtSays a ≡ soughtIn model Model·opset-import (c .end) (c .at)) where
-  pub keeping-end : a ≡ sought.Missing → Imported model seed lists i (importsIn model)
+module _ {model list : Bytes} {number : ℕ} {m : Field} {seed top : ℕ} {first lists : List ℕ} {i : Imports} {c : Cursor}
+    (q : Keeping model list number m seed top first lists i c) {a : Sought} (read : soughtSays a ≡ soughtIn model number (c .end) (c .at)) where
+  pub keeping-end : a ≡ sought.Missing → Imported model seed lists i (importsIn model number m)
   unfolding importsIn
   keeping-end e =
-      let all : q .importing .pre ≡ All model = sym (q .importing .split
-      ∙ ap (λ (l : List Field). q .importing .pre ++ l) (none-left model c (q .importing .ends) read e)
+      let all : q .importing .pre ≡ All model number m = sym (q .importing .split
+      ∙ ap (λ (l : List Field). q .importing .pre ++ l) (none-left model number m c (q .importing .ends) read e)
       ∙ append-nil (q .importing .pre)) in
       subst (λ (l : List Field). Imported model seed lists i (map (importOf model) l)) all (q .imported)
 
   module _ {f : Field} {next : Cursor} (e : a ≡ sought.Found f next) where
-    pub keeping-before : Imported model seed lists i (importsBefore model (f .place))
+    pub keeping-before : Imported model seed lists i (importsBefore model number m (f .place))
     unfolding importsBefore
     keeping-before = subst (λ (l : List Field). Imported model seed lists i (map (importOf model) l)) (sym (seen (q .importing) read e)) (q .imported)
 
-    pub keeping-goes : (r : Ruling) → rulingSays r ≡ silent (opsetImport model list (importsBefore model (f .place)) f) → r ≡ ruling.Kept
+    pub keeping-goes : (r : Ruling) → rulingSays r ≡ silent (opsetImport model list (importsBefore model number m (f .place)) f) → r ≡ ruling.Kept
         → {later : List ℕ} {more : Imports} → ImportAdded model seed i f lists later more
-        → Keeping model list seed first later more next
+        → Keeping model list number m seed top first later more next
     unfolding importing-goes
     keeping-goes r ruled k added = record {
       importing = importing-goes (q .importing) read e r ruled k;
       imported = added .imported (map (importOf model) (q .importing .pre)) _ (q .imported) (λ x. names-last (importOf model) x (q .importing .pre) f);
-      held = held-then (q .held) (held-fewer (omega arith) (added .held));
+      held = held-then (q .held) (held-fewer (q .above) (added .held));
+      above = (let low = q .above in let high = added .rises in omega arith);
     }

@@ -1,5 +1,6 @@
 pub mod Silent
 pub mod EarlierLaws
+pub mod BehindLaws
 pub mod ListedLaws
 pub mod ImportLaws
 pub mod HeaderLaws

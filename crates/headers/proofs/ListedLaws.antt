@@ -84,6 +84,7 @@ module _ {model : Bytes} {seed : ℕ} (i : Imports) {before : List ℕ} (ix : In
   unfolding same
   import-default k = record {
     held = held-all ix h;
+    rises = omega arith;
     imported = λ domains later d more. record {
       listed = listed-as (λ x l. more x ∙ ap (λ (b : Bool). b || member x domains) (same-empty x (importOf model f) l none)) (d .listed);
       default = sym (more [] ∙ ap (λ (x : Bytes). same [] x || member [] domains) (sym (import-named-by model f ez ey) ∙ no-bytes y k));
@@ -98,6 +99,7 @@ module _ {model : Bytes} {seed : ℕ} (i : Imports) {before : List ℕ} (ix : In
       → ImportAdded model seed i f before after (record { listing = l; default = i .default })
   import-named k a = record {
     held = a .held;
+    rises = a .rises;
     imported = λ domains later d more. record {
       listed = a .listed domains later (d .listed) (λ x l. more x ∙ ap (λ (u : Bytes). same x u || member x domains) by-name);
       default = d .default ∙ sym (more [] ∙ ap (λ (b : Bool). b || member [] domains) (same-nothing (importOf model f) some));

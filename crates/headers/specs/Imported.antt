@@ -1,5 +1,5 @@
 -- What is kept of the imports, and what the header answers with it. No rule speaks of this; contracts of the code do.
-use Prim.Native.Nat.{ℕ}
+use Prim.Native.Nat.{ℕ, _≤_}
 use mathlib.Core.Path.{_≡_}
 use mathlib.Core.Bool.{_||_}
 use mathlib.Core.List.{List, []}
@@ -25,6 +25,7 @@ pub record Imported (model : Bytes) (seed : ℕ) (lists : List ℕ) (i : Imports
 -- The import of a field was added.
 pub record ImportAdded (model : Bytes) (seed : ℕ) (i : Imports) (f : Field) (before after : List ℕ) (r : Imports) : Type 0 where
   pub held : Held model seed (i .listing .top) before after
+  pub rises : i .listing .top ≤ r .listing .top
   pub imported : (domains later : List Bytes) → Imported model seed before i domains
       → ((x : Bytes) → member x later ≡ (same x (importOf model f) || member x domains))
       → Imported model seed after r later
@@ -37,7 +38,7 @@ unfoldable pub headed : Imports → Ruling → Heading
 headed i ruling.Kept = heading.Imported i
 headed i (ruling.Refused r) = heading.Refused r
 
--- One reading of the model's own fields: where the four that the header and the main graph ask for begin.
+-- One reading of the model's own fields: where the four that the second walk asks for begin.
 pub record Outlined (model : Bytes) (o : Outline) : Type 0 where
   pub version : Starts model (whole model) Model·ir-version (o .first)
   pub graph : Starts model (whole model) Model·graph (o .second)
@@ -46,7 +47,7 @@ pub record Outlined (model : Bytes) (o : Outline) : Type 0 where
   -- no field has the number 0
   pub rest : Starts model (whole model) 0 (o .fifth) × Starts model (whole model) 0 (o .sixth)
 
--- A header that passes leaves the model's imports.
-unfoldable pub holds : (model : Bytes) (seed : ℕ) (lists : List ℕ) → Heading → Type 0
-holds model seed lists (heading.Imported i) = Imported model seed lists i (importsIn model)
-holds model seed lists (heading.Refused r) = Unit {0}
+-- Imports that are passed are left in the lists, above the oldest `top` names.
+unfoldable pub holds : (model : Bytes) (number : ℕ) (m : Field) (seed top : ℕ) (lists : List ℕ) → Heading → Type 0
+holds model number m seed top lists (heading.Imported i) = Imported model seed lists i (importsIn model number m) × (top ≤ i .listing .top)
+holds model number m seed top lists (heading.Refused r) = Unit {0}

@@ -9,14 +9,14 @@ ghost use Rattle.wire.specs.Message.{allOf, bytesOf, message};
 ghost use Rattle.index.specs.Table.{Indexed};
 ghost use Rattle.index.specs.Memory.{known, tableOf};
 ghost use Rattle.index.specs.Listing.{Listed, Added};
-ghost use Rattle.headers.specs.Earlier.{before, namesIn};
+ghost use Rattle.headers.specs.Earlier.{before, namesIn, textsIn};
 use index::Listing;
 use varint::same_bytes;
 use wire::Field;
 use wire::Sought;
 
 // Of the messages in fields `number` of `m`, as far as they stand before `place`: does one have `text` in its field `name`?
-fn is_earlier(model: &[u8], m: Field, number: u64, name: u64, place: usize, text: &[u8]) -> bool
+pub fn is_earlier(model: &[u8], m: Field, number: u64, name: u64, place: usize, text: &[u8]) -> bool
     ensures { λ r. ⌜ r ≡ member (now (text .entry)) (namesIn (now (model .entry)) name (before place (allOf number (message (now (model .entry)) m)))) ⌝ }
 {
     let mut c = m.contents();
@@ -29,6 +29,26 @@ fn is_earlier(model: &[u8], m: Field, number: u64, name: u64, place: usize, text
             return false;
         }
         if same_bytes(text, f.bytes_of(model, name)) {
+            return true;
+        }
+        c = next;
+    }
+}
+
+// The same of fields that are names themselves.
+pub fn is_earlier_field(model: &[u8], m: Field, number: u64, place: usize, name: &[u8]) -> bool
+    ensures { λ r. ⌜ r ≡ member (now (name .entry)) (textsIn (now (model .entry)) (before place (allOf number (message (now (model .entry)) m)))) ⌝ }
+{
+    let mut c = m.contents();
+    loop {
+        let sought = c.next_of(model, number);
+        let Sought::Found(f, next) = sought else {
+            return false;
+        };
+        if place <= f.place {
+            return false;
+        }
+        if same_bytes(name, f.text(model)) {
             return true;
         }
         c = next;

@@ -1,4 +1,4 @@
-// "Header order: 10, 11, 12, each import in order (13 then 14), 15."
+// "Header order: 10, 11, 12, each import in order (13 then 14)"
 ghost use mathlib.Core.Path.{_≡_};
 ghost use Prim.Native.Nat.{ℕ, _^_, _<_};
 ghost use mathlib.Core.List.{List};
@@ -7,6 +7,8 @@ ghost use Rattle.varint.specs.Outcome.{refused};
 ghost use Rattle.varint.specs.Bytes.{Bytes};
 ghost use Rattle.varint.specs.Lists.{within};
 ghost use Rattle.wire.specs.Message.{message, whole};
+ghost use Rattle.wire.specs.declared.Field.{Field};
+ghost use Rattle.schema.specs.Numbers.{Model·opset-import};
 ghost use Rattle.schema.specs.Answers.{silent};
 ghost use Rattle.rules.specs.Header.{header};
 ghost use Rattle.index.specs.Table.{Indexed};
@@ -20,7 +22,6 @@ use crate::wholes::has_from;
 use crate::wholes::number_from;
 use crate::wholes::whole;
 use values::Ruling;
-use values::numbers::MODEL_FUNCTIONS;
 use values::numbers::MODEL_GRAPH;
 use values::numbers::MODEL_IR_VERSION;
 use values::numbers::MODEL_OPSET_IMPORT;
@@ -37,9 +38,9 @@ fn is_ir_version(version: u64) -> bool
     version <= 11
 }
 
-fn unheaded(number: u8, place: usize) -> Heading
+pub fn unheaded(number: u8, place: usize) -> Heading
     ensures answer { λ r. ⌜ rulingSays (rulingOf r) ≡ refused number place ⌝ }
-    ensures imported { λ r. ⌜ ((model : Bytes) (seed : ℕ) (lists : List ℕ) → holds model seed lists r) ⌝ }
+    ensures imported { λ r. ⌜ ((model : Bytes) (n : ℕ) (m : Field) (seed top : ℕ) (lists : List ℕ) → holds model n m seed top lists r) ⌝ }
 {
     Heading::Refused(Refusal {
         number: number,
@@ -54,7 +55,7 @@ pub fn header(model: &[u8], list: &[u8], lists: &mut [u32], seed: u64, o: Outlin
     requires { ⌜ Indexed (now model) seed (tableOf (now lists)) (known (now lists)) ⌝ }
     requires { ⌜ length (now model) < 2 ^ 32 ⌝ }
     ensures answer { λ r. ⌜ rulingSays (rulingOf r) ≡ silent (header (now (model .entry)) (now (list .entry)) (message (now (model .entry)) (whole (now (model .entry))))) ⌝ }
-    ensures imported { λ r. ⌜ holds (now (model .entry)) seed (now (lists .exit)) r ⌝ }
+    ensures imported { λ r. ⌜ holds (now (model .entry)) Model·opset-import (whole (now (model .entry))) seed 0 (now (lists .exit)) r ⌝ }
     ensures held { λ _. ⌜ Held (now (model .entry)) seed 0 (now (lists .entry)) (now (lists .exit)) ⌝ }
 {
     let m = whole(model);
@@ -67,15 +68,14 @@ pub fn header(model: &[u8], list: &[u8], lists: &mut [u32], seed: u64, o: Outlin
     if !has_from(model, m, MODEL_OPSET_IMPORT, o.third) {
         return unheaded(Ruling::NO_OPSET_IMPORT, m.place);
     }
-    let heading = opset_imports(model, list, lists, seed, o.third);
-    let Heading::Imported(imports) = heading else {
-        return heading;
-    };
-    if has_from(model, m, MODEL_FUNCTIONS, o.fourth) {
-        return unheaded(
-            Ruling::FUNCTIONS_PRESENT,
-            m.place_of(model, MODEL_FUNCTIONS),
-        );
-    }
-    Heading::Imported(imports)
+    opset_imports(
+        model,
+        list,
+        lists,
+        seed,
+        0,
+        m,
+        MODEL_OPSET_IMPORT,
+        o.third,
+    )
 }

@@ -1,30 +1,26 @@
-// The imports of a model: which domains they name, and the rules of each.
+// The imports of a model or of a function, which stand in the fields `number` of a message: which domains they name, and the rules of each.
 ghost use mathlib.Core.Path.{_≡_};
 ghost use mathlib.Core.List.{[]};
 ghost use Prim.Native.Nat.{_^_, _≤_, _<_};
 ghost use lib.ListN.{length};
 ghost use Rattle.varint.specs.Outcome.{each};
 ghost use Rattle.varint.specs.Bytes.{member};
-ghost use Rattle.wire.specs.Message.{allOf, message, whole};
-ghost use Rattle.wire.specs.Outline.{Starts};
+ghost use Rattle.wire.specs.Message.{allOf, message};
 ghost use Rattle.operators.specs.Operators.{domain};
-ghost use Rattle.schema.specs.Numbers.{Model·opset-import};
 ghost use Rattle.schema.specs.Answers.{silent};
-ghost use Rattle.rules.specs.Header.{opsetImport};
+ghost use Rattle.rules.specs.Import.{opsetImport};
 ghost use Rattle.index.specs.Table.{Indexed};
 ghost use Rattle.index.specs.Memory.{known, tableOf};
 ghost use Rattle.index.specs.Listing.{Held};
-ghost use Rattle.headers.specs.Imports.{importsBefore};
+ghost use Rattle.headers.specs.Imports.{importsBefore, ImportsFrom};
 ghost use Rattle.headers.specs.Imported.{Imported, ImportAdded, rulingOf, headed, holds};
 ghost use Rattle.values.specs.Answers.{rulingSays};
 use crate::earlier::list_name;
-use crate::wholes::whole;
 use index::Listing;
 use operators::allows;
 use operators::canonical;
 use operators::same_domain;
 use values::Ruling;
-use values::numbers::MODEL_OPSET_IMPORT;
 use values::numbers::OPERATOR_SET_ID_DOMAIN;
 use values::numbers::OPERATOR_SET_ID_VERSION;
 use values::refused;
@@ -39,7 +35,7 @@ pub struct Imports {
     pub default: bool,
 }
 
-// What the header leaves for the graphs, or why it is refused.
+// What imports leave for the nodes, or why one is refused.
 pub enum Heading {
     Imported(Imports),
     Refused(Refusal),
@@ -65,12 +61,12 @@ pub fn ruling_of(h: Heading) -> Ruling
 }
 
 // Is the domain that of an import before this place? The imports are read again.
-fn is_imported_before(model: &[u8], place: usize, d: &[u8]) -> bool
-    ensures { λ r. ⌜ r ≡ member (domain (now (d .entry))) (importsBefore (now (model .entry)) place) ⌝ }
+fn is_imported_before(model: &[u8], m: Field, number: u64, place: usize, d: &[u8]) -> bool
+    ensures { λ r. ⌜ r ≡ member (domain (now (d .entry))) (importsBefore (now (model .entry)) number m place) ⌝ }
 {
-    let mut c = whole(model).contents();
+    let mut c = m.contents();
     loop {
-        let sought = c.next_of(model, MODEL_OPSET_IMPORT);
+        let sought = c.next_of(model, number);
         let Sought::Found(f, next) = sought else {
             return false;
         };
@@ -90,11 +86,13 @@ pub fn is_imported(
     lists: &[u32],
     seed: u64,
     imports: Imports,
+    m: Field,
+    number: u64,
     place: usize,
     d: &[u8],
 ) -> bool
-    requires { ⌜ Imported (now model) seed (now lists) imports (importsBefore (now model) place) ⌝ }
-    ensures { λ r. ⌜ r ≡ member (domain (now (d .entry))) (importsBefore (now (model .entry)) place) ⌝ }
+    requires { ⌜ Imported (now model) seed (now lists) imports (importsBefore (now model) number m place) ⌝ }
+    ensures { λ r. ⌜ r ≡ member (domain (now (d .entry))) (importsBefore (now (model .entry)) number m place) ⌝ }
 {
     let name = canonical(d);
     if name.len() == 0 {
@@ -104,7 +102,7 @@ pub fn is_imported(
     if l.whole {
         return l.has(model, lists, seed, name);
     }
-    is_imported_before(model, place, d)
+    is_imported_before(model, m, number, place, d)
 }
 
 // The imports with one more.
@@ -136,13 +134,15 @@ fn opset_import(
     lists: &[u32],
     seed: u64,
     imports: Imports,
+    m: Field,
+    number: u64,
     f: Field,
 ) -> Ruling
-    requires { ⌜ Imported (now model) seed (now lists) imports (importsBefore (now model) (f .place)) ⌝ }
-    ensures { λ r. ⌜ rulingSays r ≡ silent (opsetImport (now (model .entry)) (now (list .entry)) (importsBefore (now (model .entry)) (f .place)) f) ⌝ }
+    requires { ⌜ Imported (now model) seed (now lists) imports (importsBefore (now model) number m (f .place)) ⌝ }
+    ensures { λ r. ⌜ rulingSays r ≡ silent (opsetImport (now (model .entry)) (now (list .entry)) (importsBefore (now (model .entry)) number m (f .place)) f) ⌝ }
 {
     let d = f.bytes_of(model, OPERATOR_SET_ID_DOMAIN);
-    if is_imported(model, lists, seed, imports, f.place, d) {
+    if is_imported(model, lists, seed, imports, m, number, f.place, d) {
         return refused(Ruling::IMPORTED_TWICE, f.place);
     }
     if !allows(list, d, f.number_of(model, OPERATOR_SET_ID_VERSION)) {
@@ -151,28 +151,33 @@ fn opset_import(
     Ruling::Kept
 }
 
-// An import that is passed has a domain that is new and listed: there are never more of them than the list has entries.
-pub(crate) fn opset_imports(
+// Those from `at` on, listed above the oldest `top` names. An import that is passed has a domain that is new and in the operator list: there are never
+// more of them than that has entries.
+pub fn opset_imports(
     model: &[u8],
     list: &[u8],
     lists: &mut [u32],
     seed: u64,
+    top: usize,
+    m: Field,
+    number: u64,
     at: usize,
 ) -> Heading
-    requires { ⌜ Starts (now model) (whole (now model)) Model·opset-import at ⌝ }
+    requires { ⌜ ImportsFrom (now model) number m at ⌝ }
     requires { ⌜ Indexed (now model) seed (tableOf (now lists)) (known (now lists)) ⌝ }
+    requires { ⌜ top ≤ known (now lists) ⌝ }
     requires { ⌜ length (now model) < 2 ^ 32 ⌝ }
-    ensures answer { λ r. ⌜ rulingSays (rulingOf r) ≡ silent (each (opsetImport (now (model .entry)) (now (list .entry))) [] (allOf Model·opset-import (message (now (model .entry)) (whole (now (model .entry)))))) ⌝ }
-    ensures imported { λ r. ⌜ holds (now (model .entry)) seed (now (lists .exit)) r ⌝ }
-    ensures held { λ _. ⌜ Held (now (model .entry)) seed 0 (now (lists .entry)) (now (lists .exit)) ⌝ }
+    ensures answer { λ r. ⌜ rulingSays (rulingOf r) ≡ silent (each (opsetImport (now (model .entry)) (now (list .entry))) [] (allOf number (message (now (model .entry)) m))) ⌝ }
+    ensures imported { λ r. ⌜ holds (now (model .entry)) number m seed top (now (lists .exit)) r ⌝ }
+    ensures held { λ _. ⌜ Held (now (model .entry)) seed top (now (lists .entry)) (now (lists .exit)) ⌝ }
 {
     let mut c = Cursor {
         at: at,
-        end: model.len(),
+        end: m.next,
     };
     let none = Listing {
-        base: 0,
-        top: 0,
+        base: top,
+        top: top,
         whole: true,
     };
     let mut imports = Imports {
@@ -180,11 +185,11 @@ pub(crate) fn opset_imports(
         default: false,
     };
     loop {
-        let sought = c.next_of(model, MODEL_OPSET_IMPORT);
+        let sought = c.next_of(model, number);
         let Sought::Found(f, next) = sought else {
             return Heading::Imported(imports);
         };
-        let ruling = opset_import(model, list, lists, seed, imports, f);
+        let ruling = opset_import(model, list, lists, seed, imports, m, number, f);
         let Ruling::Kept = ruling else {
             return headed(imports, ruling);
         };

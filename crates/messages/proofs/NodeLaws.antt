@@ -14,15 +14,16 @@ use Rattle.varint.specs.declared.Refusal.{Refusal}
 use Rattle.varint.proofs.Refusing.{when-broken, when-kept}
 use Rattle.varint.proofs.Tells.{Tells, Any, tells-bind}
 use Rattle.operators.specs.Operators.{domain}
-use Rattle.schema.specs.Numbers.{Graph·node, Node·name, Node·op-type, Node·domain}
+use Rattle.schema.specs.Numbers.{Node·name, Node·op-type, Node·domain}
 use Rattle.rules.specs.Names.{nameOf}
 use Rattle.rules.specs.Walk.{Walk, Along, tested, naming}
 use Rattle.rules.specs.Node.{nodeName}
 use Rattle.rules.specs.Count.{odds}
 use Rattle.rules.proofs.Rules.{Adds}
 use Rattle.rules.proofs.Counting.{grew-name}
-use Rattle.headers.specs.Imports.{importsIn}
 use Rattle.headers.specs.Earlier.{earlierIn}
+use Rattle.headers.specs.Imports.{importsBefore}
+use Rattle.headers.proofs.ImportLaws.{imports-all}
 use Rattle.values.specs.Answers.{more, tallySays, namingSays, nameField, tallyOf, adding}
 use Rattle.values.specs.declared.names.Naming.{Naming}
 use Rattle.values.specs.declared.names.Naming.the-variants as naming-answer
@@ -30,7 +31,9 @@ use Rattle.values.specs.declared.tallies.Tally.{Tally}
 use Rattle.values.specs.declared.tallies.Tally.the-variants as tally
 use Rattle.values.proofs.TallyLaws.{more-none, tallied, untallied, tally-few, adding-says}
 use Rattle.values.proofs.NameLaws.{empty-none, empty-some, named-fails, named-passes, named-tally}
+use Rattle.messages.specs.Around.{importNumber, importsOf}
 use Rattle.messages.specs.Heads.{walkOf, nodeHead}
+use Rattle.messages.specs.declared.contexts.Surroundings.{Surroundings}
 
 module _ (model : Bytes) (earlier : List Bytes) (m : Field) (w : Walk) where
   -- the rule on a name and its place
@@ -107,35 +110,40 @@ module _ (model : Bytes) (earlier : List Bytes) (m : Field) (w : Walk) where
 
 -- ---- what is asked of a node by itself
 
-module _ (model : Bytes) (graph f : Field) where
+-- n is the number of the fields that hold the imports
+pub imported-by : (model : Bytes) (s : Surroundings) {n : ℕ} → n ≡ importNumber s → importsBefore model n (s .owner) (s .owner .next) ≡ importsOf model s
+unfolding importsOf
+imported-by model s e = ap (λ (n : ℕ). importsBefore model n (s .owner) (s .owner .next)) e ∙ imports-all model (importNumber s) (s .owner)
+
+module _ (model : Bytes) (s : Surroundings) (graph f : Field) where
   abbrev Naming? : Walk → Judged Walk
-  Naming? w = walkOf (nodeName model (earlierIn model Graph·node Node·name graph f) w (message model f))
+  Naming? w = walkOf (nodeName model (earlierIn model (s .nodes) Node·name graph f) w (message model f))
 
   Imported : Walk → Judged Walk
   Imported w = do
-    refuse 28 at: placeOf Node·domain (message model f) when: not (member (domain (bytesOf model Node·domain (message model f))) (importsIn model))
+    refuse 28 at: placeOf Node·domain (message model f) when: not (member (domain (bytesOf model Node·domain (message model f))) (importsOf model s))
     Naming? w
 
   module _ (n : Naming) (e : (w : Walk) → namingSays w n ≡ nameField model 27 Node·op-type w (message model f)) (w : Walk) where
-    headed : {o : Judged Walk} → o ≡ naming 27 w (nameOf model Node·op-type (message model f)) → (o >>= Imported) ≡ nodeHead model graph w f
+    headed : {o : Judged Walk} → o ≡ naming 27 w (nameOf model Node·op-type (message model f)) → (o >>= Imported) ≡ nodeHead model s graph w f
     unfolding nodeHead Imported
     headed k = ap (λ (o : Judged Walk). o >>= Imported) k
 
-    pub head-untyped : {x : Refusal} → n ≡ naming-answer.Refused x → tallySays w (tallyOf n) ≡ nodeHead model graph w f
+    pub head-untyped : {x : Refusal} → n ≡ naming-answer.Refused x → tallySays w (tallyOf n) ≡ nodeHead model s graph w f
     unfolding _>>=_
     head-untyped k = named-tally _ _ _ _ _ e w ∙ sym (named-fails _ _ _ _ _ e w k) ∙ headed (named-fails _ _ _ _ _ e w k)
 
     module _ {g : Field} {k : ℕ} (i : n ≡ naming-answer.Named g k) {x : Bytes} (t : x ≡ bytesOf model Node·domain (message model f)) {b : Bool}
-        (j : b ≡ member (domain x) (importsIn model)) where
-      typed : (refuse 28 at: placeOf Node·domain (message model f) when: not b >> Naming? (more w k)) ≡ nodeHead model graph w f
+        (j : b ≡ member (domain x) (importsOf model s)) where
+      typed : (refuse 28 at: placeOf Node·domain (message model f) when: not b >> Naming? (more w k)) ≡ nodeHead model s graph w f
       unfolding Imported _>>=_
       typed =
           ap (λ (u : Bool). refuse 28 at: placeOf Node·domain (message model f) when: not u >> Naming? (more w k))
-          (j ∙ ap (λ (y : Bytes). member (domain y) (importsIn model)) t)
+          (j ∙ ap (λ (y : Bytes). member (domain y) (importsOf model s)) t)
           ∙ headed (named-passes _ _ _ _ _ e w i)
 
-      pub head-foreign : b ≡ false → {p : ℕ} → p ≡ placeOf Node·domain (message model f) → refused 28 p ≡ nodeHead model graph w f
+      pub head-foreign : b ≡ false → {p : ℕ} → p ≡ placeOf Node·domain (message model f) → refused 28 p ≡ nodeHead model s graph w f
       head-foreign h q = ap (refused 28) q ∙ sym (when-broken 28 _ _ (ap not h)) ∙ typed
 
-      pub head-named : b ≡ true → (t : Tally) → tallySays (more w k) t ≡ Naming? (more w k) → tallySays w (adding k t) ≡ nodeHead model graph w f
+      pub head-named : b ≡ true → (t : Tally) → tallySays (more w k) t ≡ Naming? (more w k) → tallySays w (adding k t) ≡ nodeHead model s graph w f
       head-named h t l = adding-says w k t ∙ l ∙ sym (when-kept 28 _ _ (ap not h)) ∙ typed

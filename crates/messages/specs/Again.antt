@@ -12,25 +12,17 @@ use Rattle.wire.specs.Message.{allOf, firstOf, numberOf, placeOf, text, bytesOf
 use Rattle.schema.specs.Numbers.{Graph·node, Graph·name, Graph·initializer, Graph·input, Graph·output, Graph·sparse-initializer}
 use Rattle.schema.specs.Numbers.{Tensor·name, Tensor·data-type, Node·input, Node·output, Node·attribute}
 use Rattle.rules.specs.Names.{Name, nameOf, inputsOf, bodiesOf}
-use Rattle.rules.specs.Walk.{Context, Walk, GraphJudge, withNode, naming}
+use Rattle.rules.specs.Walk.{Walk, GraphJudge, withNode, naming}
 use Rattle.rules.specs.Types.{isElement}
 use Rattle.rules.specs.Count.{valueNames}
 use Rattle.rules.specs.Node.{nodeInput, nodeOutput, body}
 use Rattle.rules.specs.Graph.{lacksInput, defaultOrNew, input, output}
 use Rattle.headers.specs.Earlier.{earlierIn}
-use Rattle.headers.specs.Imports.{importsIn}
+use Rattle.messages.specs.Around.{inside, context}
 use Rattle.messages.specs.Heads.{attributeRules, nodeHead}
 use Rattle.messages.specs.declared.contexts.Surroundings.{Surroundings}
 
--- A graph inside this one.
-unfoldable pub inside : Surroundings → Surroundings
-inside s = record { main = false; version = s .version }
-
 module _ (model : Bytes) where
-  -- What surrounds a graph, with the imports as they are read again.
-  unfoldable pub context : Surroundings → Context
-  context s = record { imports = importsIn model; main = s .main; ir-version = s .version }
-
   -- The names that are tested: of a field that is a name, of an initializer, and of a graph up to its nodes.
   unfoldable pub fieldNames : Field → List Bytes
   fieldNames f = text model f ∷ []
@@ -44,9 +36,9 @@ module _ (model : Bytes) where
       bytesOf model Graph·name g ∷ flatMap (valueNames model main) (allOf Graph·input g) ++ flatMap tensorNames (allOf Graph·initializer g)
 
   -- "op_type (27, 21); 28; a nonempty node name (21, 29); inputs"
-  unfoldable pub nodeRules : (graph : Field) → Walk → Field → Judged Walk
-  nodeRules graph w f = do
-    t ← nodeHead model graph w f
+  unfoldable pub nodeRules : Surroundings → (graph : Field) → Walk → Field → Judged Walk
+  nodeRules s graph w f = do
+    t ← nodeHead model s graph w f
     each (nodeInput model) t (allOf Node·input (message model f))
 
   -- "its name (20, 21); 16"
@@ -62,8 +54,8 @@ module _ (model : Bytes) where
     unfoldable pub declaring : Surroundings → (graph f : Field) → Walk → Name → Judged Walk
     declaring s graph f w x = do
       let inputs = inputsOf model (message model graph)
-      refuse 43 at: x .place when: lacksInput (context s) inputs (x .bytes)
-      defaultOrNew full (context s) inputs (earlierIn model Graph·initializer Tensor·name graph f) w x
+      refuse 43 at: x .place when: lacksInput (context model s) inputs (x .bytes)
+      defaultOrNew full (context model s) inputs (earlierIn model Graph·initializer Tensor·name graph f) w x
 
     unfoldable pub initializerAgain : Surroundings → (graph : Field) → Walk → Field → Judged Walk
     initializerAgain s graph w f = do
@@ -79,7 +71,7 @@ module _ (model : Bytes) where
     opening s w f = do
       let g = message model f
       t ← graphRules w f
-      v ← each (input model full (context s)) t (allOf Graph·input g)
+      v ← each (input model full (context model s)) t (allOf Graph·input g)
       each (initializerAgain s f) v (allOf Graph·initializer g)
 
     -- A node after its attributes: "34; outputs".
@@ -91,23 +83,23 @@ module _ (model : Bytes) where
       pass (withNode v)
 
     module _ (nested : GraphJudge) where
-      unfoldable pub attributeAgain : (node : Field) → Walk → Field → Judged Walk
-      attributeAgain node w f = do
-        t ← attributeRules model node w f
+      unfoldable pub attributeAgain : Surroundings → (node : Field) → Walk → Field → Judged Walk
+      attributeAgain s node w f = do
+        t ← attributeRules model s node w f
         each (body nested) t (bodiesOf (message model f))
 
-      unfoldable pub nodeAgain : (graph : Field) → Walk → Field → Judged Walk
-      nodeAgain graph w f = do
-        t ← nodeRules graph w f
-        v ← each (attributeAgain f) t (allOf Node·attribute (message model f))
+      unfoldable pub nodeAgain : Surroundings → (graph : Field) → Walk → Field → Judged Walk
+      nodeAgain s graph w f = do
+        t ← nodeRules s graph w f
+        v ← each (attributeAgain s f) t (allOf Node·attribute (message model f))
         closing v f
 
       unfoldable pub graphFrom : Surroundings → Walk → Field → Judged Walk
       graphFrom s w f = do
         let g = message model f
         v ← opening s w f
-        n ← each (nodeAgain f) v (allOf Graph·node g)
-        each (output model (context s)) n (allOf Graph·output g)
+        n ← each (nodeAgain s f) v (allOf Graph·node g)
+        each (output model (context model s)) n (allOf Graph·output g)
 
     unfoldable pub graphAgain : (left : ℕ) → Surroundings → GraphJudge
     graphAgain zero s w f = refused 6 (f .place)

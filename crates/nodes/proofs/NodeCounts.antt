@@ -15,7 +15,7 @@ use Rattle.wire.specs.Answers.{contentsOf, soughtSays, soughtIn}
 use Rattle.wire.specs.Message.{allOf, text, bytesOf, message}
 use Rattle.wire.proofs.Along.{allFrom}
 use Rattle.varint.proofs.Tells.{Tells, Any, any-all, tells-bind, tells-if, tells-weaken}
-use Rattle.schema.specs.Numbers.{Graph·node, Node·input, Node·name, Node·op-type, Attribute·name}
+use Rattle.schema.specs.Numbers.{Node·input, Node·name, Node·op-type, Attribute·name}
 use Rattle.rules.specs.Names.{Name, nameOf, nameIn}
 use Rattle.rules.specs.Walk.{Walk, start, tested, naming}
 use Rattle.rules.specs.Count.{odds}
@@ -28,8 +28,9 @@ use Rattle.values.specs.Answers.{more, tallySays}
 use Rattle.values.specs.declared.tallies.Tally.{Tally}
 use Rattle.values.specs.declared.tallies.Tally.the-variants as tally
 use Rattle.values.proofs.TallyLaws.{tally-most, tally-few, Tallying, tallying-fits}
-use Rattle.messages.specs.Heads.{walkOf, attributeRules, nodeHead}
+use Rattle.messages.specs.Heads.{walkOf, valueRules, attributeRules, nodeHead}
 use Rattle.messages.specs.Again.{fieldNames, nodeRules}
+use Rattle.messages.specs.declared.contexts.Surroundings.{Surroundings}
 
 -- the fields of a loop over the message that a field holds
 pub contents-fields : (s : Bytes) (number : ℕ) (m : Field) {c : Cursor} → c ≡ contentsOf m → allFrom s number (c .end) (c .at) ≡ allOf number (message s m)
@@ -70,9 +71,9 @@ module _ (model : Bytes) where
   abbrev pub headNames : Field → List Bytes
   headNames f = bytesOf model Node·op-type (message model f) ∷ bytesOf model Node·name (message model f) ∷ []
 
-  adds-head : (graph : Field) (w : Walk) (f : Field) → Tells (Adds w (odds (headNames f))) Any (nodeHead model graph w f)
+  adds-head : (s : Surroundings) (graph : Field) (w : Walk) (f : Field) → Tells (Adds w (odds (headNames f))) Any (nodeHead model s graph w f)
   unfolding nodeHead walkOf nameOf
-  adds-head graph w f =
+  adds-head s graph w f =
       let m = message model f in
       let x = nameOf model Node·op-type m in
       let name = bytesOf model Node·name m in
@@ -80,37 +81,36 @@ module _ (model : Bytes) where
       let e = odds-append (x .bytes ∷ []) (name ∷ []) in
       tells-bind (Adds w (odds (x .bytes ∷ []))) R Any (naming 27 w x) _ (naming-tells Any w x 27 tt tt) (λ t h.
       past R (refuse 28 at: _ when: _) _
-      (tells-bind (λ n. Adds t (odds (name ∷ [])) (n .walk)) R Any (nodeName model (earlierIn model Graph·node Node·name graph f) t m) _
-      (grew-name model (earlierIn model Graph·node Node·name graph f) t m) (λ n i. (i .0 ∙ h .0, i .1 ∙ h .1, i .2 ∙ h .2, omega arith))))
+      (tells-bind (λ n. Adds t (odds (name ∷ [])) (n .walk)) R Any (nodeName model (earlierIn model (s .nodes) Node·name graph f) t m) _
+      (grew-name model (earlierIn model (s .nodes) Node·name graph f) t m) (λ n i. (i .0 ∙ h .0, i .1 ∙ h .1, i .2 ∙ h .2, omega arith))))
 
-  module _ (graph : Field) (w : Walk) (f : Field) where
+  module _ (s : Surroundings) (graph : Field) (w : Walk) (f : Field) where
     abbrev Inputs : List Bytes
     Inputs = flatMap (fieldNames model) (allOf Node·input (message model f))
 
-    pub rules-adds : Tells (Adds w (odds (headNames f) + odds Inputs)) Any (nodeRules model graph w f)
+    pub rules-adds : Tells (Adds w (odds (headNames f) + odds Inputs)) Any (nodeRules model s graph w f)
     unfolding nodeRules
     rules-adds =
         let R : Walk → Type 0 = Adds w (odds (headNames f) + odds Inputs) in
-        tells-bind (Adds w (odds (headNames f))) R Any (nodeHead model graph w f) _ (adds-head graph w f) (λ t h.
+        tells-bind (Adds w (odds (headNames f))) R Any (nodeHead model s graph w f) _ (adds-head s graph w f) (λ t h.
         tells-weaken (Adds t (odds Inputs)) R Any Any (each (nodeInput model) t (allOf Node·input (message model f)))
         (λ v i. (i .0 ∙ h .0, i .1 ∙ h .1, i .2 ∙ h .2, omega arith)) (λ r _. tt) (adds-inputs t (allOf Node·input (message model f))))
 
-    pub rules-odd : Tells (λ v. v .odd ≤ w .odd + (2 + length (flatMap (fieldNames model) (allOf Node·input (message model f))))) Any (nodeRules model graph w f)
+    pub rules-odd : Tells (λ v. v .odd ≤ w .odd + (2 + length (flatMap (fieldNames model) (allOf Node·input (message model f))))) Any (nodeRules model s graph w f)
     rules-odd =
         let few = odds-few Inputs in
         let two = odds-few (headNames f) in
-        tells-weaken (Adds w (odds (headNames f) + odds Inputs)) (λ v. v .odd ≤ w .odd + (2 + length Inputs)) Any Any (nodeRules model graph w f)
+        tells-weaken (Adds w (odds (headNames f) + odds Inputs)) (λ v. v .odd ≤ w .odd + (2 + length Inputs)) Any Any (nodeRules model s graph w f)
         (λ v a. let n = a .3 in omega arith) (λ r _. tt) rules-adds
-    -- nothing but the count of odd names changes
 
-  pub attribute-adds : (node : Field) (w : Walk) (f : Field)
-      → Tells (Adds w (odds (bytesOf model Attribute·name (message model f) ∷ []))) Any (attributeRules model node w f)
+  pub attribute-adds : (s : Surroundings) (node : Field) (w : Walk) (f : Field)
+      → Tells (Adds w (odds (bytesOf model Attribute·name (message model f) ∷ []))) Any (attributeRules model s node w f)
   unfolding attributeRules nameOf
-  attribute-adds node w f =
+  attribute-adds s node w f =
       let x = nameOf model Attribute·name (message model f) in
       let R : Walk → Type 0 = Adds w (odds (x .bytes ∷ [])) in
       tells-bind R R Any (naming 22 w x) _ (naming-tells Any w x 22 tt tt) (λ t h.
-      past R (refuse 31 at: _ when: _) _ (past R (refuse 33 at: _ when: _) _ (past R (refuse 32 at: _ when: _) (pass t) h)))
+      past R (refuse 31 at: _ when: _) _ (past R (valueRules model s f) (pass t) h))
 
   -- ---- by the tallies
 
@@ -120,8 +120,8 @@ module _ (model : Bytes) where
       let w = seeing scope in
       tally-few w (e w refl) (fieldNames model f) (Adds w (odds (fieldNames model f))) (λ v a. a .3) (adds-input w f) i
 
-  pub head-few : (graph f : Field) {t : Tally} → ((w : Walk) → tallySays w t ≡ nodeHead model graph w f) → {k : ℕ} → t ≡ tally.Counted k → k ≤ 2
-  head-few graph f e i = tally-few start (e start) (headNames f) (Adds start (odds (headNames f))) (λ v a. a .3) (adds-head graph start f) i
+  pub head-few : (s : Surroundings) (graph f : Field) {t : Tally} → ((w : Walk) → tallySays w t ≡ nodeHead model s graph w f) → {k : ℕ} → t ≡ tally.Counted k → k ≤ 2
+  head-few s graph f e i = tally-few start (e start) (headNames f) (Adds start (odds (headNames f))) (λ v a. a .3) (adds-head s graph start f) i
 
   pub inputs-most : (scope : List Name) (f : Field) {t : Tally}
       → ((w : Walk) → w .scope ≡ scope → tallySays w t ≡ each (nodeInput model) w (allOf Node·input (message model f)))
@@ -131,14 +131,14 @@ module _ (model : Bytes) where
       let l = allOf Node·input (message model f) in
       tally-few w (e w refl) (flatMap (fieldNames model) l) (Adds w (odds (flatMap (fieldNames model) l))) (λ v a. a .3) (adds-inputs w l) i
 
-  pub rules-few : (graph f : Field) (scope : List Name) {t : Tally} → ((w : Walk) → w .scope ≡ scope → tallySays w t ≡ nodeRules model graph w f)
+  pub rules-few : (s : Surroundings) (graph f : Field) (scope : List Name) {t : Tally} → ((w : Walk) → w .scope ≡ scope → tallySays w t ≡ nodeRules model s graph w f)
       → {k : ℕ} → t ≡ tally.Counted k → k ≤ 2 + length (flatMap (fieldNames model) (allOf Node·input (message model f)))
-  rules-few graph f scope e i = tally-most (seeing scope) (e (seeing scope) refl) _ (rules-odd graph (seeing scope) f) i
+  rules-few s graph f scope e i = tally-most (seeing scope) (e (seeing scope) refl) _ (rules-odd s graph (seeing scope) f) i
 
-  pub attribute-few : (node f : Field) {t : Tally} → ((w : Walk) → tallySays w t ≡ attributeRules model node w f) → {k : ℕ} → t ≡ tally.Counted k → k ≤ 1
-  attribute-few node f e i =
+  pub attribute-few : (s : Surroundings) (node f : Field) {t : Tally} → ((w : Walk) → tallySays w t ≡ attributeRules model s node w f) → {k : ℕ} → t ≡ tally.Counted k → k ≤ 1
+  attribute-few s node f e i =
       let names = bytesOf model Attribute·name (message model f) ∷ [] in
-      tally-few start (e start) names (Adds start (odds names)) (λ v a. a .3) (attribute-adds node start f) i
+      tally-few start (e start) names (Adds start (odds names)) (λ v a. a .3) (attribute-adds s node start f) i
 
   -- as many inputs as there are fields, so no more than 64 bits can count
   singles : (l : List Field) → length (flatMap (fieldNames model) l) ≡ length l

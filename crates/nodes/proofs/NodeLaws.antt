@@ -22,6 +22,7 @@ use Rattle.values.proofs.TallyLaws.{more-none, tallied, untallied, adding-says}
 use Rattle.values.proofs.NameLaws.{empty-none, empty-some}
 use Rattle.messages.specs.Heads.{nodeHead}
 use Rattle.messages.specs.Again.{nodeRules}
+use Rattle.messages.specs.declared.contexts.Surroundings.{Surroundings}
 
 -- an input of a node
 module _ (model : Bytes) (w : Walk) (f : Field) {x : Bytes} (t : x ≡ text model f) where
@@ -62,20 +63,20 @@ module _ (model : Bytes) (w : Walk) (f : Field) {x : Bytes} (t : x ≡ text mode
         input-hidden l = sym (when-broken 30 (f .place) _ (ap not l)) ∙ read
 
 -- what is asked before the attributes
-module _ (model : Bytes) (graph f : Field) (w : Walk) where
+module _ (model : Bytes) (s : Surroundings) (graph f : Field) (w : Walk) where
   abbrev Inputs : Walk → Judged Walk
   Inputs t = each (nodeInput model) t (allOf Node·input (message model f))
 
-  rules-by : {o : Judged Walk} → nodeHead model graph w f ≡ o → (o >>= Inputs) ≡ nodeRules model graph w f
+  rules-by : {o : Judged Walk} → nodeHead model s graph w f ≡ o → (o >>= Inputs) ≡ nodeRules model s graph w f
   unfolding nodeRules
   rules-by k = ap (λ (o : Judged Walk). o >>= Inputs) (sym k)
 
-  module _ {r : Tally} (e : tallySays w r ≡ nodeHead model graph w f) where
-    pub rules-headed : {x : Refusal} → r ≡ tally.Refused x → tallySays w r ≡ nodeRules model graph w f
+  module _ {r : Tally} (e : tallySays w r ≡ nodeHead model s graph w f) where
+    pub rules-headed : {x : Refusal} → r ≡ tally.Refused x → tallySays w r ≡ nodeRules model s graph w f
     unfolding tallySays _>>=_
     rules-headed k = ap (tallySays w) k ∙ rules-by (untallied w e k)
 
     pub rules-inputs : {k : ℕ} → r ≡ tally.Counted k → (t : Tally) → tallySays (more w k) t ≡ Inputs (more w k)
-        → tallySays w (adding k t) ≡ nodeRules model graph w f
+        → tallySays w (adding k t) ≡ nodeRules model s graph w f
     unfolding _>>=_
     rules-inputs {k} i t l = adding-says w k t ∙ l ∙ rules-by (tallied w e i)

@@ -5,7 +5,7 @@ ghost use mathlib.Core.List.{flatMap};
 ghost use lib.ListN.{length, drop};
 ghost use Rattle.varint.specs.Outcome.{each};
 ghost use Rattle.wire.specs.Message.{allOf, message};
-ghost use Rattle.schema.specs.Numbers.{Graph·node, Node·input, Node·output, Node·name, Node·attribute, Attribute·name};
+ghost use Rattle.schema.specs.Numbers.{Node·input, Node·output, Node·name, Node·attribute, Attribute·name};
 ghost use Rattle.schema.specs.declared.Kind.the-variants.{Node};
 ghost use Rattle.schema.specs.Opened.{Walked};
 ghost use Rattle.rules.specs.Verdict.{fills};
@@ -14,8 +14,8 @@ ghost use Rattle.rules.specs.Node.{nodeInput};
 ghost use Rattle.index.specs.Listing.{Listed};
 ghost use Rattle.values.specs.Answers.{tallySays};
 ghost use Rattle.headers.specs.Earlier.{earlierIn};
-ghost use Rattle.headers.specs.Imports.{importsIn};
 ghost use Rattle.headers.specs.Imported.{Imported};
+ghost use Rattle.messages.specs.Around.{importsOf, attributesOf};
 ghost use Rattle.messages.specs.Heads.{attributeRules, nodeHead};
 ghost use Rattle.scope.specs.Scope.{scopeIn, walkIn, stepSays, grows, Countable, Keeps};
 ghost use Rattle.scope.specs.Recall.{Recalling, Recalled};
@@ -23,6 +23,7 @@ ghost use Rattle.messages.specs.Again.{fieldNames, nodeRules, closing};
 use crate::outputs::node_outputs;
 use headers::has;
 use index::Listing;
+use messages::Surroundings;
 use messages::attribute_rules;
 use messages::node_head;
 use scope::Index;
@@ -87,15 +88,23 @@ fn node_inputs(
 }
 
 // "op_type (27, 21); 28; a nonempty node name (21, 29)", with what the extra cells hold of imports and names.
-fn head(model: &[u8], extra: &[u32], ix: Index, l: Listing, graph: Field, f: Field) -> Tally
+fn head(
+    model: &[u8],
+    extra: &[u32],
+    ix: Index,
+    l: Listing,
+    s: Surroundings,
+    graph: Field,
+    f: Field,
+) -> Tally
     requires { ⌜ ix .split ≤ length (now extra) ⌝ }
-    requires { ⌜ Imported (now model) (ix .seed) (drop (ix .split) (now extra)) (ix .imports) (importsIn (now model)) ⌝ }
-    requires { ⌜ Listed (now model) (ix .seed) (drop (ix .split) (now extra)) l (earlierIn (now model) Graph·node Node·name graph f) ⌝ }
-    ensures { λ r. ⌜ ((w : Walk) → tallySays w r ≡ nodeHead (now (model .entry)) graph w f) ⌝ }
+    requires { ⌜ Imported (now model) (ix .seed) (drop (ix .split) (now extra)) (ix .imports) (importsOf (now model) s) ⌝ }
+    requires { ⌜ Listed (now model) (ix .seed) (drop (ix .split) (now extra)) l (earlierIn (now model) (s .nodes) Node·name graph f) ⌝ }
+    ensures { λ r. ⌜ ((w : Walk) → tallySays w r ≡ nodeHead (now (model .entry)) s graph w f) ⌝ }
 {
     let split = ix.split;
     let imports = ix.imports;
-    node_head(model, &extra[split..], ix.seed, imports, l, graph, f)
+    node_head(model, &extra[split..], ix.seed, imports, l, s, graph, f)
 }
 
 // "op_type (27, 21); 28; a nonempty node name (21, 29); inputs"
@@ -106,37 +115,41 @@ pub fn node_rules(
     ix: Index,
     l: Listing,
     used: usize,
+    s: Surroundings,
     graph: Field,
     f: Field,
 ) -> Tally
     requires { ⌜ Recalling (now model) ix (now cells) (now extra) ⌝ }
-    requires { ⌜ Imported (now model) (ix .seed) (drop (ix .split) (now extra)) (ix .imports) (importsIn (now model)) ⌝ }
-    requires { ⌜ Listed (now model) (ix .seed) (drop (ix .split) (now extra)) l (earlierIn (now model) Graph·node Node·name graph f) ⌝ }
+    requires { ⌜ Imported (now model) (ix .seed) (drop (ix .split) (now extra)) (ix .imports) (importsOf (now model) s) ⌝ }
+    requires { ⌜ Listed (now model) (ix .seed) (drop (ix .split) (now extra)) l (earlierIn (now model) (s .nodes) Node·name graph f) ⌝ }
     requires { ⌜ 2 + length (flatMap (fieldNames (now model)) (allOf Node·input (message (now model) f))) < 2 ^ 64 ⌝ }
-    ensures { λ r. ⌜ ((w : Walk) → w .scope ≡ scopeIn (now (model .entry)) (now (cells .entry)) used → tallySays w r ≡ nodeRules (now (model .entry)) graph w f) ⌝ }
+    ensures { λ r. ⌜ ((w : Walk) → w .scope ≡ scopeIn (now (model .entry)) (now (cells .entry)) used → tallySays w r ≡ nodeRules (now (model .entry)) s graph w f) ⌝ }
 {
-    let tally = head(model, extra, ix, l, graph, f);
+    let tally = head(model, extra, ix, l, s, graph, f);
     let Tally::Counted(odd) = tally else {
         return tally;
     };
     adding(odd, node_inputs(model, cells, extra, ix, used, f))
 }
 
-// "22, 21, 31, 33, 32" of an attribute, with what the extra cells hold of the names before it.
+// "22, 21, 31, 33, 32" of an attribute, with what the extra cells hold of the names before it, and of those that it may refer to.
 pub fn attribute_head(
     model: &[u8],
     extra: &[u32],
     ix: Index,
     l: Listing,
+    s: Surroundings,
     node: Field,
     a: Field,
 ) -> Tally
     requires { ⌜ ix .split ≤ length (now extra) ⌝ }
+    requires { ⌜ Listed (now model) (ix .seed) (drop (ix .split) (now extra)) (ix .attributes) (attributesOf (now model) s) ⌝ }
     requires { ⌜ Listed (now model) (ix .seed) (drop (ix .split) (now extra)) l (earlierIn (now model) Node·attribute Attribute·name node a) ⌝ }
-    ensures { λ r. ⌜ ((w : Walk) → tallySays w r ≡ attributeRules (now (model .entry)) node w a) ⌝ }
+    ensures { λ r. ⌜ ((w : Walk) → tallySays w r ≡ attributeRules (now (model .entry)) s node w a) ⌝ }
 {
     let split = ix.split;
-    attribute_rules(model, &extra[split..], ix.seed, l, node, a)
+    let attributes = ix.attributes;
+    attribute_rules(model, &extra[split..], ix.seed, attributes, l, s, node, a)
 }
 
 // "34; outputs", and the node is counted.
@@ -150,7 +163,7 @@ pub fn closing(
 ) -> Step
     requires { ⌜ length (now model) < 2 ^ 32 ⌝ }
     requires { ⌜ Walked (now model) Node f ⌝ }
-    requires { ⌜ p .nodes < 2 ^ 32 ⌝ }
+    requires { ⌜ p .nodes ≤ 2 ^ 33 ⌝ }
     requires { ⌜ Countable p (flatMap (fieldNames (now model)) (allOf Node·output (message (now model) f))) ⌝ }
     requires { ⌜ Recalling (now model) ix (now cells) (now extra) ⌝ }
     ensures answer { λ r. ⌜ stepSays (now (model .entry)) (now (cells .exit)) r ≡ closing (now (model .entry)) (fills (length (now (cells .entry)))) (walkIn (now (model .entry)) (now (cells .entry)) p) f ⌝ }

@@ -25,7 +25,8 @@ use Rattle.values.proofs.NameLaws.{named-name, named-passes, named-fails}
 use Rattle.headers.specs.Earlier.{earlierIn}
 use Rattle.index.specs.Table.{seek, since}
 use Rattle.scope.specs.Scope.{bytesIn, walkIn, stepSays, withOdd, Countable, grows, Keeps, Defaultable}
-use Rattle.messages.specs.Again.{context, tensorNames, declaring, initializerAgain}
+use Rattle.messages.specs.Around.{context}
+use Rattle.messages.specs.Again.{tensorNames, declaring, initializerAgain}
 use Rattle.messages.specs.declared.contexts.Surroundings.{Surroundings}
 use Rattle.values.specs.Answers.{more, namingSays, nameField}
 use Rattle.values.specs.declared.names.Naming.{Naming}

@@ -1,4 +1,3 @@
-pub mod BehindLaws
 pub mod ListsLaws
 pub mod InputLaws
 pub mod InitializerLaws

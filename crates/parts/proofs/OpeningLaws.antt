@@ -26,7 +26,8 @@ use Rattle.rules.proofs.Rules.{Adds, odds-append, naming-tells}
 use Rattle.rules.proofs.Counting.{past, Grew, names-each, grew-type, grew-input}
 use Rattle.rules.proofs.NamesFew.{odds-few}
 use Rattle.scope.specs.Scope.{bytesIn, walkIn, stepSays, counting, Countable, grows, Keeps, Defaultable}
-use Rattle.messages.specs.Again.{context, tensorNames, openingNames, graphRules, initializerAgain, opening}
+use Rattle.messages.specs.Around.{context}
+use Rattle.messages.specs.Again.{tensorNames, openingNames, graphRules, initializerAgain, opening}
 use Rattle.messages.specs.declared.contexts.Surroundings.{Surroundings}
 use Rattle.index.specs.Table.{seek, since}
 use Rattle.index.proofs.UseLaws.{since-none}

@@ -15,7 +15,8 @@ use Rattle.rules.specs.Header.{secondWalk}
 use Rattle.rules.specs.Verdict.{LARGEST, Counts, counts, WIDTH, room, fills, verdict}
 use Rattle.rules.specs.Demands.{Acceptable, AcceptedExactly, EnoughCells}
 use Rattle.varint.proofs.Passing.{pass-same, passed-bind, passed-seq, passed-rule}
-use Rattle.rules.proofs.Cells.{UnlessFull, unless-bind, second-unless-full, second-fits, second-passes}
+use Rattle.rules.proofs.Held.{UnlessFull, unless-bind}
+use Rattle.rules.proofs.Cells.{second-unless-full, second-fits, second-passes}
 
 not-false : (b : Bool) → T (not (not b)) → b ≡ true
 not-false true t = refl

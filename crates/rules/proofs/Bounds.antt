@@ -16,15 +16,16 @@ use Rattle.varint.proofs.Lists.{All, If, all-map, all-first, all-mapped, all-ap
 use Rattle.varint.proofs.Tells.{Any, any-all, each-agree}
 use Rattle.wire.proofs.Reading.{Fits}
 use Rattle.wire.proofs.Fields.{fields-done, message-ordered, keep-ordered, ordered-all, all-of-ordered}
-use Rattle.schema.specs.Numbers.{Model·graph, Graph·node, Graph·initializer, Graph·input, Graph·output, Node·input, Node·output, Node·attribute}
-use Rattle.schema.specs.Numbers.{Tensor·name, ValueInfo·name}
+use Rattle.schema.specs.Numbers.{Model·graph, Model·functions, Function·input, Function·output, Function·node, Graph·node, Graph·initializer}
+use Rattle.schema.specs.Numbers.{Graph·input, Graph·output, Node·input, Node·output, Node·attribute, Tensor·name, ValueInfo·name}
 use Rattle.rules.specs.Names.{Name, nameOf, nameIn, bodiesOf, bodiesIn}
-use Rattle.rules.specs.Runner.{Action, binds, reads, visits, unlessEmpty, initializers, nodeScript, waitingIn, script}
-use Rattle.rules.specs.Runner.{Run, Ran, begin, chosen, choose, times, perform, runGraph, runTo, run}
-use Rattle.rules.specs.Count.{nodesIn, nodesTo, nodeCount, odds, attributeNames, nodeNames, graphNames, namesIn, oddTo, oddIn}
+use Rattle.rules.specs.Runner.{Action, binds, reads, visits, unlessEmpty, initializers, nodeScript, waitingIn, script, functionScript}
+use Rattle.rules.specs.Runner.{Run, Ran, begin, chosen, choose, unbound, times, perform, runGraph, runFunction, runMain, runTo, run}
+use Rattle.rules.specs.Count.{nodesIn, functionNodes, mainNodes, nodesTo, nodeCount, attributeNames, nodeNames, graphNames}
+use Rattle.rules.specs.Count.{namesIn, functionNames, mainNames, oddTo, oddIn}
 use Rattle.rules.proofs.Scripts.{bodies-ordered}
 
--- a body inside a graph begins after it and ends in time
+-- a body inside a graph or a function begins after it and ends in time
 abbrev Inside : Field → Field → Type 0
 Inside f b = (f .start < b .start) × (b .start ≤ b .next) × (b .next ≤ f .next)
 
@@ -40,8 +41,8 @@ module _ (model : Bytes) where
       all-map (Fits (n .start) (n .next)) (Inside f) (λ b k. (omega arith, omega arith, omega arith)) (bodiesIn model n)
       (ordered-all (n .start) (n .next) (bodiesIn model n) (bodies-ordered model n))
 
-  nodes-inside : (f : Field) → All (Fits (f .start) (f .next)) (allOf Graph·node (message model f))
-  nodes-inside f = ordered-all (f .start) (f .next) (allOf Graph·node (message model f)) (all-of-ordered model Graph·node f)
+  parts-inside : (n : ℕ) (f : Field) → All (Fits (f .start) (f .next)) (allOf n (message model f))
+  parts-inside n f = ordered-all (f .start) (f .next) (allOf n (message model f)) (all-of-ordered model n f)
 
   -- ---- the runner
 
@@ -82,21 +83,34 @@ module _ (model : Bytes) where
       (all-flat Any (Stays f) (λ o. unlessEmpty binds (nameIn model o)) (λ o _. stays-unless f binds (λ x. tt) (nameIn model o)) (allOf Node·output m)
       (any-all (allOf Node·output m)))
 
+  -- an opening that stays, the nodes, and outputs that are read: a graph's script, or a function's
+  stays-body : (f : Field) (nodes outputs : ℕ) (opening : List Action) → All (Stays f) opening → (named : Field → Name)
+      → All (Stays f) (opening ++ flatMap (nodeScript model) (allOf nodes (message model f)) ++ map (λ o. reads (named o)) (allOf outputs (message model f)))
+  stays-body f nodes outputs opening s named =
+      let m = message model f in
+      all-append (Stays f) (opening ++ flatMap (nodeScript model) (allOf nodes m)) (map (λ o. reads (named o)) (allOf outputs m))
+      (all-append (Stays f) opening (flatMap (nodeScript model) (allOf nodes m)) s
+      (all-flat (Fits (f .start) (f .next)) (Stays f) (nodeScript model) (λ n h. stays-node f n h) (allOf nodes m) (parts-inside nodes f)))
+      (all-mapped Any (Stays f) (λ o. reads (named o)) (λ o _. tt) (allOf outputs m) (any-all (allOf outputs m)))
+
+  stays-binds : (f : Field) (named : Field → Name) (is : List Field) → All (Stays f) (map (λ i. binds (named i)) is)
+  stays-binds f named is = all-mapped Any (Stays f) (λ i. binds (named i)) (λ i _. tt) is (any-all is)
+
   stays-script : (main : Bool) (f : Field) → All (Stays f) (script model main f)
   unfolding script
   stays-script main f =
       let g = message model f in
-      let waiting = waitingIn model main g in
       let named : Field → Name = λ i. nameOf model ValueInfo·name (message model i) in
-      all-append (Stays f) (map (λ i. binds (named i)) (allOf Graph·input g) ++ initializers model waiting (allOf Graph·initializer g)
-      ++ flatMap (nodeScript model) (allOf Graph·node g)) (map (λ o. reads (named o)) (allOf Graph·output g))
-      (all-append (Stays f) (map (λ i. binds (named i)) (allOf Graph·input g) ++ initializers model waiting (allOf Graph·initializer g))
-      (flatMap (nodeScript model) (allOf Graph·node g))
-      (all-append (Stays f) (map (λ i. binds (named i)) (allOf Graph·input g)) (initializers model waiting (allOf Graph·initializer g))
-      (all-mapped Any (Stays f) (λ i. binds (named i)) (λ i _. tt) (allOf Graph·input g) (any-all (allOf Graph·input g)))
-      (stays-initializers f waiting (allOf Graph·initializer g)))
-      (all-flat (Fits (f .start) (f .next)) (Stays f) (nodeScript model) (λ n h. stays-node f n h) (allOf Graph·node g) (nodes-inside f)))
-      (all-mapped Any (Stays f) (λ o. reads (named o)) (λ o _. tt) (allOf Graph·output g) (any-all (allOf Graph·output g)))
+      let values = initializers model (waitingIn model main g) (allOf Graph·initializer g) in
+      stays-body f Graph·node Graph·output (map (λ i. binds (named i)) (allOf Graph·input g) ++ values)
+      (all-append (Stays f) (map (λ i. binds (named i)) (allOf Graph·input g)) values (stays-binds f named (allOf Graph·input g))
+      (stays-initializers f (waitingIn model main g) (allOf Graph·initializer g))) named
+
+  stays-function : (f : Field) → All (Stays f) (functionScript model f)
+  unfolding functionScript
+  stays-function f =
+      let inputs = allOf Function·input (message model f) in
+      stays-body f Function·node Function·output (map (λ i. binds (nameIn model i)) inputs) (stays-binds f (nameIn model) inputs) (nameIn model)
 
   perform-agrees : (f : Field) (K L : Run → Field → Ran) → ((b : Field) → Inside f b → (r : Run) → K r b ≡ L r b) → (r : Run) (a : Action)
       → Stays f a
@@ -110,15 +124,26 @@ module _ (model : Bytes) where
   unfolding script allOf message keep flatMap initializers
   script-empty main f h = rw (fields-done model (f .next) (f .start) h, script) refl
 
+  -- a script, to two bounds that agree on the bodies inside
+  script-agrees : (n m : ℕ) (f : Field) → ((b : Field) → Inside f b → (r : Run) → runGraph model n false r b ≡ runGraph model m false r b)
+      → (acts : List Action) → All (Stays f) acts → (r : Run)
+      → each (perform (λ s g. runGraph model n false s g)) r acts ≡ each (perform (λ s g. runGraph model m false s g)) r acts
+  script-agrees n m f agree acts stays r =
+      each-agree (Stays f) (perform (runGraph model n false)) (perform (runGraph model m false))
+      (λ s a i. perform-agrees f (runGraph model n false) (runGraph model m false) agree s a i) acts stays r
+
   run-agrees : (n m : ℕ) (main : Bool) (f : Field) → f .next ≤ f .start + n → f .next ≤ f .start + m → (r : Run) → runGraph model n main r f ≡ runGraph model m main r f
   unfolding runGraph each
   run-agrees zero zero main f h k r = refl
   run-agrees zero (suc m) main f h k r = rw (script-empty main f (omega arith)) refl
   run-agrees (suc n) zero main f h k r = rw (script-empty main f (omega arith)) refl
   run-agrees (suc n) (suc m) main f h k r =
-      each-agree (Stays f) (perform (runGraph model n false)) (perform (runGraph model m false))
-      (λ s a i. perform-agrees f (runGraph model n false) (runGraph model m false) (λ b j t. run-agrees n m false b (omega arith) (omega arith) t) s a i)
-      (script model main f) (stays-script main f) r
+      script-agrees n m f (λ b j t. run-agrees n m false b (omega arith) (omega arith) t) (script model main f) (stays-script main f) r
+
+  function-agrees : (n m : ℕ) (f : Field) → f .next ≤ f .start + n → f .next ≤ f .start + m → (r : Run) → runFunction model n r f ≡ runFunction model m r f
+  unfolding runFunction
+  function-agrees n m f h k r =
+      script-agrees n m f (λ b j t. run-agrees n m false b (omega arith) (omega arith) t) (functionScript model f) (stays-function f) (unbound r)
 
   -- ---- the plain count
 
@@ -126,16 +151,25 @@ module _ (model : Bytes) where
   unfolding allOf message keep
   nodes-empty f h = rw (fields-done model (f .next) (f .start) h) refl
 
+  -- node fields of a graph or of a function, with number `p`, and those of the bodies inside
+  within-agree : (p n m : ℕ) (f : Field) → ((b : Field) → Inside f b → nodesIn model n b ≡ nodesIn model m b)
+      → flatMap (λ x. x ∷ flatMap (λ b. nodesIn model n b) (bodiesIn model x)) (allOf p (message model f))
+      ≡ flatMap (λ x. x ∷ flatMap (λ b. nodesIn model m b) (bodiesIn model x)) (allOf p (message model f))
+  within-agree p n m f agree =
+      flat-agree (Fits (f .start) (f .next)) _ _
+      (λ x i. ap (λ (l : List Field). x ∷ l) (flat-agree (Inside f) (nodesIn model n) (nodesIn model m) agree (bodiesIn model x) (bodies-inside f x i)))
+      (allOf p (message model f)) (parts-inside p f)
+
   nodes-agree : (n m : ℕ) (f : Field) → f .next ≤ f .start + n → f .next ≤ f .start + m → nodesIn model n f ≡ nodesIn model m f
   unfolding nodesIn flatMap
   nodes-agree zero zero f h k = refl
   nodes-agree zero (suc m) f h k = rw (nodes-empty f (omega arith)) refl
   nodes-agree (suc n) zero f h k = rw (nodes-empty f (omega arith)) refl
-  nodes-agree (suc n) (suc m) f h k =
-      flat-agree (Fits (f .start) (f .next)) _ _
-      (λ x i. ap (λ (l : List Field). x ∷ l) (flat-agree (Inside f) (nodesIn model n) (nodesIn model m)
-      (λ b j. nodes-agree n m b (omega arith) (omega arith)) (bodiesIn model x) (bodies-inside f x i)))
-      (allOf Graph·node (message model f)) (nodes-inside f)
+  nodes-agree (suc n) (suc m) f h k = within-agree Graph·node n m f (λ b j. nodes-agree n m b (omega arith) (omega arith))
+
+  function-nodes : (n m : ℕ) (f : Field) → f .next ≤ f .start + n → f .next ≤ f .start + m → functionNodes model n f ≡ functionNodes model m f
+  unfolding functionNodes
+  function-nodes n m f h k = within-agree Function·node n m f (λ b j. nodes-agree n m b (omega arith) (omega arith))
 
   -- ---- the names
 
@@ -161,10 +195,16 @@ module _ (model : Bytes) where
     node-names n h = rw (flat-agree (Fits (f .start) (f .next)) (attributeNames model k) (attributeNames model l) attribute-names
         (allOf Node·attribute (message model n)) (attributes-inside f n h)) refl
 
+    names-within : (p : ℕ) → flatMap (nodeNames model k) (allOf p (message model f)) ≡ flatMap (nodeNames model l) (allOf p (message model f))
+    names-within p = flat-agree (Fits (f .start) (f .next)) (nodeNames model k) (nodeNames model l) node-names (allOf p (message model f)) (parts-inside p f)
+
     graph-names : (main : Bool) → graphNames model k main f ≡ graphNames model l main f
     unfolding graphNames
-    graph-names main = rw (flat-agree (Fits (f .start) (f .next)) (nodeNames model k) (nodeNames model l) node-names
-        (allOf Graph·node (message model f)) (nodes-inside f)) refl
+    graph-names main = rw (names-within Graph·node) refl
+
+    function-names : functionNames model k f ≡ functionNames model l f
+    unfolding functionNames
+    function-names = rw (names-within Function·node) refl
 
   -- a graph with no bytes has a name too, the empty one: so there must be a bound for it
   names-agree : (n m : ℕ) (main : Bool) (f : Field) → f .start ≤ f .next → f .next < f .start + n → f .next < f .start + m
@@ -177,38 +217,72 @@ module _ (model : Bytes) where
 
   -- ---- the whole model
 
+  all-fit : (n : ℕ) → All (Fits 0 (length model)) (allOf n (message model (whole model)))
+  unfolding whole
+  all-fit n = parts-inside n (whole model)
+
   main-fits : If (Fits 0 (length model)) (firstOf Model·graph (message model (whole model)))
-  unfolding firstOf whole
-  main-fits =
-      all-first (Fits 0 (length model)) (allOf Model·graph (message model (whole model)))
-      (ordered-all 0 (length model) (allOf Model·graph (message model (whole model))) (all-of-ordered model Model·graph (whole model)))
+  unfolding firstOf
+  main-fits = all-first (Fits 0 (length model)) (allOf Model·graph (message model (whole model))) (all-fit Model·graph)
+
+  -- two readings of the main graph that agree
+  main-agrees : {A : Type 0} (a : A) (k j : Field → A) → ((g : Field) → Fits 0 (length model) g → k g ≡ j g)
+      → _≡_ {A = A} (elim (firstOf Model·graph (message model (whole model))) [ none ↦ a | some g ↦ k g ])
+      (elim (firstOf Model·graph (message model (whole model))) [ none ↦ a | some g ↦ j g ])
+  main-agrees {A} a k j agree = go (firstOf Model·graph (message model (whole model))) main-fits
+    where
+      go : (o : Option Field) → If (Fits 0 (length model)) o → _≡_ {A = A} (elim o [ none ↦ a | some g ↦ k g ]) (elim o [ none ↦ a | some g ↦ j g ])
+      go none i = refl
+      go (some g) i = agree g i
+
+  abbrev functions : List Field
+  functions = allOf Model·functions (message model (whole model))
+
+  -- the names of a function whose graphs are read to this bound
+  abbrev named : (bound : ℕ) → Field → List Bytes
+  named bound = functionNames model (λ b. namesIn model bound false b)
+
+  module _ (bound : ℕ) (h : length model ≤ bound) where
+    main-run : (choices : List ℕ) → runMain model bound choices ≡ runMain model (length model) choices
+    unfolding runMain
+    main-run choices =
+        main-agrees (pass (begin choices)) (runGraph model bound true (begin choices)) (runGraph model (length model) true (begin choices))
+        (λ g i. run-agrees bound (length model) true g (omega arith) (omega arith) (begin choices))
+
+    functions-run : (r : Run) → each (runFunction model bound) r functions ≡ each (runFunction model (length model)) r functions
+    functions-run r =
+        each-agree (Fits 0 (length model)) (runFunction model bound) (runFunction model (length model))
+        (λ s f i. function-agrees bound (length model) f (omega arith) (omega arith) s) functions (all-fit Model·functions) r
+
+    main-nodes : mainNodes model bound ≡ mainNodes model (length model)
+    unfolding mainNodes
+    main-nodes = main-agrees [] (nodesIn model bound) (nodesIn model (length model)) (λ g i. nodes-agree bound (length model) g (omega arith) (omega arith))
+
+    functions-nodes : flatMap (functionNodes model bound) functions ≡ flatMap (functionNodes model (length model)) functions
+    functions-nodes =
+        flat-agree (Fits 0 (length model)) (functionNodes model bound) (functionNodes model (length model))
+        (λ f i. function-nodes bound (length model) f (omega arith) (omega arith)) functions (all-fit Model·functions)
+
+    main-names : mainNames model bound ≡ mainNames model (length model)
+    unfolding mainNames
+    main-names =
+        main-agrees [] (namesIn model bound true) (namesIn model (length model) true)
+        (λ g i. names-agree bound (length model) true g (i .2) (omega arith) (omega arith))
+
+    functions-names : flatMap (named bound) functions ≡ flatMap (named (length model)) functions
+    functions-names =
+        flat-agree (Fits 0 (length model)) (named bound) (named (length model))
+        (λ f i. function-names f (namesIn model bound false) (namesIn model (length model) false)
+        (λ b j. names-agree bound (length model) false b (j .1) (omega arith) (omega arith))) functions (all-fit Model·functions)
 
   pub run-bound : (bound : ℕ) (choices : List ℕ) → length model ≤ bound → runTo model bound choices ≡ run model choices
-  unfolding run runTo
-  run-bound bound choices h = go (firstOf Model·graph (message model (whole model))) main-fits
-    where
-      go : (o : Option Field) → If (Fits 0 (length model)) o → _≡_ {A = Ran}
-          (elim o [ none ↦ pass (begin choices) | some g ↦ runGraph model bound true (begin choices) g ])
-          (elim o [ none ↦ pass (begin choices) | some g ↦ runGraph model (length model) true (begin choices) g ])
-      go none i = refl
-      go (some g) i = run-agrees bound (length model) true g (omega arith) (omega arith) (begin choices)
+  unfolding run runTo each
+  run-bound bound choices h = simp (main-run bound h choices, functions-run bound h)
 
   pub nodes-bound : (bound : ℕ) → length model ≤ bound → nodesTo model bound ≡ nodeCount model
   unfolding nodesTo nodeCount
-  nodes-bound bound h = go (firstOf Model·graph (message model (whole model))) main-fits
-    where
-      go : (o : Option Field) → If (Fits 0 (length model)) o → _≡_ {A = ℕ}
-          (elim o [ none ↦ 0 | some g ↦ length (nodesIn model bound g) ])
-          (elim o [ none ↦ 0 | some g ↦ length (nodesIn model (length model) g) ])
-      go none i = refl
-      go (some g) i = ap (λ (l : List Field). length l) (nodes-agree bound (length model) g (omega arith) (omega arith))
+  nodes-bound bound h = simp (main-nodes bound h, functions-nodes bound h)
 
   pub odd-bound : (bound : ℕ) → length model ≤ bound → oddTo model bound ≡ oddIn model
   unfolding oddTo oddIn
-  odd-bound bound h = go (firstOf Model·graph (message model (whole model))) main-fits
-    where
-      go : (o : Option Field) → If (Fits 0 (length model)) o → _≡_ {A = ℕ}
-          (elim o [ none ↦ 0 | some g ↦ odds (namesIn model bound true g) ])
-          (elim o [ none ↦ 0 | some g ↦ odds (namesIn model (length model) true g) ])
-      go none i = refl
-      go (some g) i = ap (λ (l : List Bytes). odds l) (names-agree bound (length model) true g (i .2) (omega arith) (omega arith))
+  odd-bound bound h = simp (main-names bound h, functions-names bound h)

@@ -12,8 +12,8 @@ use Rattle.varint.specs.Bytes.{Bytes}
 use Rattle.wire.specs.Message.{firstOf, message, whole}
 use Rattle.schema.specs.Numbers.{Model·graph}
 use Rattle.rules.specs.Names.{Name}
-use Rattle.rules.specs.Runner.{Action, binds, reads, visits, script, Read, Run, Ran, begin, find, withBound, withRead}
-use Rattle.rules.specs.Runner.{bind, read, chosen, unchosen, choose, forget, times, perform, runGraph, runTo, run}
+use Rattle.rules.specs.Runner.{Action, binds, reads, visits, script, functionScript, Read, Run, Ran, begin, find, withBound, withRead}
+use Rattle.rules.specs.Runner.{bind, read, chosen, unchosen, choose, forget, unbound, times, perform, runGraph, runFunction, runMain, runTo, run}
 use Rattle.rules.proofs.Visits.{visit-once}
 
 abbrev pub Sub : List Read → List Read → Type 0
@@ -119,12 +119,25 @@ module _ (model : Bytes) where
       K : Run → Field → Ran
       K s g = runGraph model bound false s g
 
-  pub follows-run : (choices : List ℕ) → Follows [] [] (run model []) (run model choices)
-  unfolding run runTo begin
-  follows-run choices = go (firstOf Model·graph (message model (whole model)))
+  follows-main : (bound : ℕ) (choices : List ℕ) → Follows [] [] (runMain model bound []) (runMain model bound choices)
+  unfolding runMain begin
+  follows-main bound choices = go (firstOf Model·graph (message model (whole model)))
     where
       go : (o : Option Field) → Follows [] []
-          (elim o [ none ↦ pass (begin []) | some g ↦ runGraph model (length model) true (begin []) g ])
-          (elim o [ none ↦ pass (begin choices) | some g ↦ runGraph model (length model) true (begin choices) g ])
+          (elim o [ none ↦ pass (begin []) | some g ↦ runGraph model bound true (begin []) g ])
+          (elim o [ none ↦ pass (begin choices) | some g ↦ runGraph model bound true (begin choices) g ])
       go none = (begin choices, refl, (refl, refl), (λ x m. m), λ U a b. b)
-      go (some g) = follows-graph (length model) true (begin []) (begin choices) g (refl, refl)
+      go (some g) = follows-graph bound true (begin []) (begin choices) g (refl, refl)
+
+  follows-function : (bound : ℕ) (r₀ r : Run) (f : Field) → Beside r₀ r → Follows (r₀ .trace) (r .trace) (runFunction model bound r₀ f) (runFunction model bound r f)
+  unfolding runFunction unbound
+  follows-function bound r₀ r f h =
+      let K : Run → Field → Ran = runGraph model bound false in
+      let same = h .1 in
+      follows-each (perform K) (perform K) (follows-perform K (follows-graph bound false)) (functionScript model f) (unbound r₀) (unbound r) (h .0, cc)
+
+  pub follows-run : (choices : List ℕ) → Follows [] [] (run model []) (run model choices)
+  unfolding run runTo
+  follows-run choices =
+      follows-bind [] [] (runMain model (length model) []) (runMain model (length model) choices) _ _ (follows-main (length model) choices) (λ s₀ s k.
+      follows-each (runFunction model (length model)) (runFunction model (length model)) (follows-function (length model)) _ s₀ s k)

@@ -4,29 +4,26 @@ use Prim.Native.Nat.{ℕ, zero, suc, _+_}
 use native.Mathlib.Omega.{arith}
 use native.Mathlib.Nat.{add-suc}
 use mathlib.Core.Path.{_≡_, refl, ap, _∙_}
-use mathlib.Core.Bool.{Bool, true, false}
+use mathlib.Core.Bool.{Bool, false}
 use mathlib.Core.List.{List, [], _∷_, _++_, flatMap}
-use mathlib.Core.Option.{Option, none, some}
 use lib.ListN.{length, length-append}
-use Rattle.varint.specs.Outcome.{pass, _>>=_, _>>_, each, Judged, Rule, refused, refuse_at:_when:_, refuse_at:_first:_when:_}
+use Rattle.varint.specs.Outcome.{pass, _>>=_, _>>_, each, Judged, Rule, refuse_at:_when:_, refuse_at:_first:_when:_}
 use Rattle.wire.specs.declared.Field.{Field}
 use Rattle.varint.specs.Lists.{isEmpty, keep}
 use Rattle.varint.specs.Bytes.{Bytes}
-use Rattle.wire.specs.Message.{Message, allOf, firstOf, text, bytesOf, message, whole}
+use Rattle.wire.specs.Message.{Message, allOf, text, bytesOf, message}
 use Rattle.varint.proofs.Lists.{flat-flat}
 use Rattle.varint.proofs.Tells.{Tells, Any, any-all, Among, anything, tells-bind, tells-weaken, tells-seq, tells-if}
-use Rattle.schema.specs.Numbers.{Model·graph, Graph·node, Graph·name, Graph·initializer, Graph·input, Graph·output, ValueInfo·name}
+use Rattle.schema.specs.Numbers.{Graph·node, Graph·name, Graph·initializer, Graph·input, Graph·output, ValueInfo·name}
 use Rattle.schema.specs.Numbers.{Tensor·name, Node·input, Node·output, Node·name, Node·op-type, Node·attribute, Attribute·name, Dimension·dim-param}
 use Rattle.rules.specs.Names.{Name, nameOf, nameIn, bodiesOf, inputsOf, bodiesIn}
-use Rattle.rules.specs.Walk.{Context, nestedIn, inMain, Walk, GraphJudge, start, withName, withNode, leaving, Along, along, tested, naming, define}
+use Rattle.rules.specs.Walk.{Context, nestedIn, inMain, Walk, GraphJudge, withName, withNode, leaving, Along, along, tested, naming, define}
 use Rattle.rules.specs.Types.{dim, declaredType}
 use Rattle.rules.specs.Node.{nodeName, nodeInput, nodeOutput, body, attribute, node}
 use Rattle.rules.specs.Graph.{input, isDefault, defaultOrNew, initializer, output, graphWith, graph}
-use Rattle.rules.specs.Header.{inModel, header, secondWalkTo, secondWalk}
-use Rattle.rules.specs.Count.{nodesIn, nodesTo, nodeCount, odds, valueNames, attributeNames, nodeNames, graphNames, namesIn, oddTo, oddIn}
+use Rattle.rules.specs.Count.{nodesIn, odds, valueNames, attributeNames, nodeNames, graphNames, namesIn}
 use Rattle.rules.proofs.Rules.{Adds, dim-tells, odds-append, odds-none, map-flat, tested-tells, naming-tells}
 use Rattle.rules.proofs.Rules.{Type·refusals, inType, main-type-tells, nodeName-tells}
-use Rattle.rules.proofs.Bounds.{nodes-bound, odd-bound}
 
 -- what comes after a step of which nothing is asked
 pub after : {A B : Type 0} (R : B → Type 0) (j : Judged A) (f : A → Judged B) → ((a : A) → Tells R Any (f a)) → Tells R Any (j >>= f)
@@ -67,7 +64,7 @@ module _ {A S : Type 0} (walkOf : S → Walk) (j : A → List Bytes) (step : S �
   pub names-each : (as′ : List A) (s : S) → Tells (GrewIn walkOf s 0 (odds (flatMap j as′))) Any (each step s as′)
   names-each as′ s = rw (no-nodes as′) at (grew-each walkOf (λ _. []) j step one as′ s)
 
-abbrev itself : Walk → Walk
+abbrev pub itself : Walk → Walk
 itself w = w
 
 abbrev along′ : Along → Walk
@@ -164,7 +161,7 @@ module _ (model : Bytes) (full : ℕ → Bool) where
       grew-body w f = tells-bind (Grew w (length (k f)) (odds (l f))) (Grew w (length (k f)) (odds (l f))) Any (J w f) _ (nest w f) (λ v e. e)
 
       grew-attribute : (w : Along) (f : Field)
-          → Tells (GrewIn along′ w (length (flatMap k (bodiesOf (message model f)))) (odds (attributeNames model l f))) Any (attribute model J w f)
+          → Tells (GrewIn along′ w (length (flatMap k (bodiesOf (message model f)))) (odds (attributeNames model l f))) Any (attribute model c J w f)
       unfolding attribute nameOf attributeNames
       grew-attribute w f =
           let x = nameOf model Attribute·name (message model f) in
@@ -202,13 +199,18 @@ module _ (model : Bytes) (full : ℕ → Bool) where
           (grew-name model (w .earlier) t m) (λ n h₂.
           tells-bind (Grew (n .walk) 0 (odds ins)) R Any (each (nodeInput model) (n .walk) (allOf Node·input m)) _
           (names-each itself (λ i. text model i ∷ []) (nodeInput model) grew-node-input (allOf Node·input m) (n .walk)) (λ i h₃.
-          tells-bind (λ a. Grew i (length inner) (odds inside) (a .walk)) R Any (each (attribute model J) (along i) (allOf Node·attribute m)) _
-          (grew-each along′ (λ a. flatMap k (bodiesOf (message model a))) (attributeNames model l) (attribute model J) grew-attribute
+          tells-bind (λ a. Grew i (length inner) (odds inside) (a .walk)) R Any (each (attribute model c J) (along i) (allOf Node·attribute m)) _
+          (grew-each along′ (λ a. flatMap k (bodiesOf (message model a))) (attributeNames model l) (attribute model c J) grew-attribute
           (allOf Node·attribute m) (along i)) (λ a h₄.
           past R (refuse 34 at: _ when: _) _
           (tells-bind (Grew (a .walk) 0 (odds outs)) R Any (each (nodeOutput model full) (a .walk) (allOf Node·output m)) _
           (names-each itself (λ o. text model o ∷ []) (nodeOutput model full) grew-node-output (allOf Node·output m) (a .walk))
           (λ v h₅. (omega arith, omega arith))))))))
+
+      -- the nodes of a graph or of a function
+      pub grew-nodes : (ns : List Field) (w : Along)
+          → Tells (GrewIn along′ w (length (flatMap (λ n. n ∷ flatMap k (bodiesIn model n)) ns)) (odds (flatMap (nodeNames model l) ns))) Any (each (node model full c J) w ns)
+      grew-nodes = grew-each along′ (λ n. n ∷ flatMap k (bodiesIn model n)) (nodeNames model l) (node model full c J) grew-node
 
       grew-graph : (w : Walk) (f : Field)
           → Tells (Grew w (length (flatMap (λ n. n ∷ flatMap k (bodiesIn model n)) (allOf Graph·node (message model f))))
@@ -237,8 +239,7 @@ module _ (model : Bytes) (full : ℕ → Bool) where
           (names-each along′ (λ t. bytesOf model Tensor·name (message model t) ∷ []) (initializer model full c (inputsOf model g))
           (grew-initializer (inputsOf model g)) (allOf Graph·initializer g) (along v)) (λ i h₃.
           tells-bind (λ n. Grew (i .walk) (length nodes) (odds inside) (n .walk)) R Any (each (node model full c J) (along (i .walk)) (allOf Graph·node g)) _
-          (grew-each along′ (λ n. n ∷ flatMap k (bodiesIn model n)) (nodeNames model l) (node model full c J) grew-node (allOf Graph·node g)
-          (along (i .walk))) (λ n h₄.
+          (grew-nodes (allOf Graph·node g) (along (i .walk))) (λ n h₄.
           tells-weaken (Grew (n .walk) 0 (odds outs)) R Any Any (each (output model c) (n .walk) (allOf Graph·output g))
           (λ u h₅. (omega arith, omega arith)) (λ r _. tt)
           (names-each itself (valueNames model (c .main)) (output model c) grew-output (allOf Graph·output g) (n .walk)))))))
@@ -251,35 +252,3 @@ grew-depths model full zero more c w f = tt
 grew-depths model full (suc left) more c w f = rw add-suc
     (grew-graph model full c (graph model full left (nestedIn c)) (nodesIn model (more + left)) (namesIn model (more + left) false)
     (λ w f. grew-depths model full left more (nestedIn c) w f) w f)
-
--- ---- the whole second walk
-
--- both counts are the plain ones
-abbrev pub Plain : Bytes → Walk → Type 0
-Plain model w = (w .nodes ≡ nodeCount model) × (w .odd ≡ oddIn model)
-
-pub second-counts : (model list : Bytes) (full : ℕ → Bool) → Tells (Plain model) Any (secondWalk model list full)
-unfolding inModel secondWalk secondWalkTo nodesTo oddTo start
-second-counts model list full =
-    let R : Walk → Type 0 = λ w. (w .nodes ≡ nodesTo model (length model + 8)) × (w .odd ≡ oddTo model (length model + 8)) in
-    tells-weaken R (Plain model) Any Any (secondWalk model list full)
-    (λ w e. (e .0 ∙ nodes-bound model (length model + 8) (omega arith), e .1 ∙ odd-bound model (length model + 8) (omega arith))) (λ r _. tt)
-    (after R (header model list (message model (whole model))) _
-    (λ imports. go (inModel (message model (whole model)) imports) refl (firstOf Model·graph (message model (whole model)))))
-  where
-    nodes : Option Field → ℕ
-    nodes o = elim o [ none ↦ 0 | some g ↦ length (nodesIn model (length model + 8) g) ]
-
-    names : Option Field → ℕ
-    names o = elim o [ none ↦ 0 | some g ↦ odds (namesIn model (length model + 8) true g) ]
-
-    walked : Context → Option Field → Judged Walk
-    walked c o = elim o [ none ↦ refused 11 (message model (whole model) .place) | some g ↦ graph model full 8 c start g ]
-
-    go : (c : Context) → c .main ≡ true → (o : Option Field) → Tells (λ w. (w .nodes ≡ nodes o) × (w .odd ≡ names o)) Any (walked c o)
-    go c m none = tt
-    go c m (some g) =
-        let q : odds (namesIn model (length model + 8) (c .main) g) ≡ names (some g) = ap (λ (b : Bool). odds (namesIn model (length model + 8) b g)) m in
-        tells-weaken (Grew start (length (nodesIn model (length model + 8) g)) (odds (namesIn model (length model + 8) (c .main) g)))
-        (λ w. (w .nodes ≡ nodes (some g)) × (w .odd ≡ names (some g))) Any Any
-        (graph model full 8 c start g) (λ w e. (omega arith, omega arith)) (λ r _. tt) (grew-depths model full 8 (length model) c start g)

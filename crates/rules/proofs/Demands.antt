@@ -1,4 +1,4 @@
--- The demands, from their parts: Lockstep and Matching (judge beside runner), Choices, Traces, Bounds, Depth, Counting.
+-- The demands, from their parts: Lockstep and FunctionLockstep (judge beside runner), Choices, Traces, Bounds, Depth, FunctionCounting.
 use Prim.Native.Nat.{ℕ, _+_}
 use native.Mathlib.Omega.{arith}
 use mathlib.Core.Path.{_≡_, refl, sym, ap, _∙_}
@@ -7,34 +7,37 @@ use mathlib.Core.List.{List, [], List·Memᴰ·not-nil}
 use mathlib.Core.Option.{Option, none, some}
 use lib.ListN.{length}
 use lib.Dec.{ltb}
-use Rattle.varint.specs.Outcome.{pass, refused, refuse_at:_when:_}
+use Rattle.varint.specs.Outcome.{pass, each, refuse_at:_when:_}
 use Rattle.wire.specs.declared.Field.{Field}
 use Rattle.varint.specs.Lists.{contains}
 use Rattle.varint.specs.Bytes.{Bytes}
-use Rattle.wire.specs.Message.{firstOf, message, whole}
+use Rattle.wire.specs.Message.{allOf, firstOf, numberOf, message, whole}
 use Rattle.varint.proofs.Tells.{Any, any-all}
 use Rattle.varint.proofs.Passing.{pass-same, passed-bind, passed-seq, passed-tells}
 use Rattle.wire.proofs.Fields.{fields-bound}
 use Rattle.operators.specs.Operators.{sound}
 use Rattle.operators.proofs.Entries.{entries-bound}
-use Rattle.schema.specs.Numbers.{Model·graph}
+use Rattle.schema.specs.Numbers.{Model·ir-version, Model·graph, Model·functions}
 use Rattle.schema.specs.FirstWalk.{firstWalk}
 use Rattle.schema.proofs.Bound.{walk-bound}
 use Rattle.schema.proofs.Refusals.{FirstWalk·refusals, firstWalk-tells}
 use Rattle.rules.specs.Walk.{start}
-use Rattle.rules.specs.Graph.{graph}
+use Rattle.rules.specs.Function.{functions, function}
 use Rattle.rules.specs.Header.{inModel, header, secondWalkTo, secondWalk}
 use Rattle.rules.specs.Verdict.{LARGEST, Counts, counts, fills, verdict}
-use Rattle.rules.specs.Runner.{Run, begin, runGraph, runTo, run}
+use Rattle.rules.specs.Runner.{Run, begin, runGraph, runFunction, runMain, runTo, run}
 use Rattle.rules.specs.Demands.{Faithful, Demand3, CountsTrue, BoundsNeverDecide}
 use Rattle.rules.proofs.Rules.{Header·refusals, header-tells}
-use Rattle.rules.proofs.Matching.{Matches, Quiet, quiet-among, quiet-rule, quiet-matches, quiet-then, after-matches}
-use Rattle.rules.proofs.Lockstep.{InStep, depths-match}
+use Rattle.rules.proofs.Matching.{Matches, Quiet, quiet-among, quiet-rule, quiet-matches, quiet-then, bind-matches, after-matches, each-matches}
+use Rattle.rules.proofs.InStep.{InStep}
+use Rattle.rules.proofs.MainGraph.{mainGraph}
+use Rattle.rules.proofs.Lockstep.{depths-match}
+use Rattle.rules.proofs.FunctionLockstep.{InStepFunctions, function-matches}
 use Rattle.rules.proofs.Choices.{Follows, Sub, follows-run}
 use Rattle.rules.proofs.Traces.{functional}
 use Rattle.rules.proofs.Bounds.{run-bound, nodes-bound, odd-bound}
 use Rattle.rules.proofs.Depth.{second-bound}
-use Rattle.rules.proofs.Counting.{Plain, second-counts}
+use Rattle.rules.proofs.FunctionCounting.{Plain, second-counts}
 
 pub boundsNeverDecide : BoundsNeverDecide
 boundsNeverDecide = record {
@@ -59,16 +62,30 @@ module _ (model list : Bytes) where
   unfolding contains
   quiet-first = quiet-among Any _ FirstWalk·refusals (firstWalk model) (tt, tt, tt) (firstWalk-tells model)
 
-  second-matches : (full : ℕ → Bool) → Matches InStep (secondWalk model list full) (run model [])
-  unfolding inModel secondWalk secondWalkTo runTo start begin
-  second-matches full = rw (← (run-bound model (length model + 8) [] (omega arith)))
-      (quiet-matches InStep (header model list (message model (whole model))) _ _ quiet-header (λ imports. go imports (firstOf Model·graph (message model (whole model)))))
+  main-matches : (full : ℕ → Bool) (imports : List Bytes)
+      → Matches InStep (mainGraph model full 8 (inModel (message model (whole model)) imports) (firstOf Model·graph (message model (whole model))))
+      (runMain model (length model + 8) [])
+  unfolding inModel runMain start begin
+  main-matches full imports = go (firstOf Model·graph (message model (whole model)))
     where
-      go : (imports : List Bytes) (o : Option Field) → Matches InStep
-          (elim o [ none ↦ refused 11 (message model (whole model) .place) | some g ↦ graph model full 8 (inModel (message model (whole model)) imports) start g ])
+      go : (o : Option Field) → Matches InStep (mainGraph model full 8 (inModel (message model (whole model)) imports) o)
           (elim o [ none ↦ pass (begin []) | some g ↦ runGraph model (length model + 8) true (begin []) g ])
-      go imports none = tt
-      go imports (some g) = depths-match model full 8 (length model) (inModel (message model (whole model)) imports) refl start (begin []) g (refl, refl, refl)
+      go none = tt
+      go (some g) = depths-match model full 8 (length model) (inModel (message model (whole model)) imports) refl start (begin []) g (refl, refl, refl)
+
+  -- the functions after it: they have a depth less, of which the runner has enough
+  second-matches : (full : ℕ → Bool) → Matches InStep (secondWalk model list full) (run model [])
+  unfolding secondWalk secondWalkTo runTo functions
+  second-matches full = rw (← (run-bound model (length model + 8) [] (omega arith)))
+      (let m = message model (whole model) in
+      let v = numberOf Model·ir-version m in
+      let bound : length model + 1 + 7 ≡ length model + 8 = omega arith in
+      quiet-matches InStep (header model list m) _ _ quiet-header (λ imports.
+      bind-matches InStep InStep _ (runMain model (length model + 8) []) _ _ (main-matches full imports) (λ w r h.
+      after-matches InStepFunctions InStep (each (function model list full 7 v) (functions w) (allOf Model·functions m)) _ _
+      (each-matches InStepFunctions (function model list full 7 v) (runFunction model (length model + 8))
+      (λ u s f k. rw bound at (function-matches model list full 7 (length model + 1) v refl u s f k)) (allOf Model·functions m) (functions w) r h)
+      (λ f s k. (s, refl, k)))))
 
   -- an acceptance counts the names that the run had bound together
   abbrev Counted : Counts → Run → Type 0

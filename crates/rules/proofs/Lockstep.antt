@@ -1,136 +1,34 @@
--- The judge and the run that enters every body once go in step, graph by graph: the names in scope are the names bound.
-use Prim.Native.Nat.{ℕ, zero, suc, _+_, max}
-use mathlib.Core.Path.{_≡_, refl, sym, ap, ap₂, subst, _∙_}
+-- The judge and the run that enters every body once go in step, graph by graph.
+use Prim.Native.Nat.{ℕ, zero, suc, _+_}
+use mathlib.Core.Path.{_≡_, refl, sym, ap, subst}
 use mathlib.Core.Bool.{Bool, true, false, not, _||_, true≢false}
 use mathlib.Core.List.{List, [], _∷_}
-use mathlib.Core.Option.{Option, none, some}
 use native.Mathlib.Nat.{add-suc}
-use lib.ListN.{length}
 use lib.Dec.{eqb}
-use Rattle.varint.specs.Outcome.{Outcome, pass, _>>=_, _>>_, each, Judged, Rule, refuse_at:_when:_, refuse_at:_first:_when:_}
+use Rattle.varint.specs.Outcome.{pass, _>>=_, _>>_, each, Judged, Rule, refuse_at:_when:_}
 use Rattle.wire.specs.declared.Field.{Field}
-use Rattle.varint.specs.Lists.{isEmpty, present, contains, keep}
+use Rattle.varint.specs.Lists.{isEmpty, keep}
 use Rattle.varint.specs.Bytes.{Bytes, same, member}
-use Rattle.wire.specs.Message.{Message, allOf, numberOf, placeOf, text, bytesOf, message, whole}
-use Rattle.varint.proofs.Tells.{Any, any-all}
+use Rattle.wire.specs.Message.{Message, allOf, numberOf, placeOf, text, message, whole}
 use Rattle.schema.specs.Numbers.{Model·ir-version, Graph·name, Graph·node, Graph·initializer, Graph·input, Graph·output, Node·input, Node·output}
-use Rattle.schema.specs.Numbers.{Node·name, Node·op-type, Node·attribute, Attribute·name, Tensor·name, Tensor·data-type, ValueInfo·name}
-use Rattle.rules.specs.Utf8.{wellFormed}
+use Rattle.schema.specs.Numbers.{Node·op-type, Node·attribute, Attribute·name, Tensor·name, Tensor·data-type, ValueInfo·name}
 use Rattle.rules.specs.Names.{Name, nameOf, nameIn, bodiesOf, inputsOf, bodiesIn}
-use Rattle.rules.specs.Walk.{Context, nestedIn, inMain, Walk, withName, withNode, withTested, leaving, Along, along}
-use Rattle.rules.specs.Walk.{visible, definedAt, tested, naming, define}
-use Rattle.rules.specs.Types.{isElement, declaredType}
-use Rattle.rules.specs.Node.{nodeName, nodeInput, nodeOutput, body, attribute, node}
+use Rattle.rules.specs.Walk.{Context, nestedIn, Walk, withNode, withTested, leaving, Along, along, visible, naming, define}
+use Rattle.rules.specs.Types.{isElement}
+use Rattle.rules.specs.Node.{nodeInput, nodeOutput, body, attribute, node}
 use Rattle.rules.specs.Graph.{input, atIR3, takesDefaults, isDefault, defaultOrNew, initializer, output, graphWith, graph}
-use Rattle.rules.specs.Runner.{binds, reads, visits, unlessEmpty, initializers, nodeScript, waitingIn, script, reading, Run, Ran}
-use Rattle.rules.specs.Runner.{find, withBound, withRead, bind, read, unchosen, choose, forget, perform, runGraph}
-use Rattle.rules.specs.Count.{odds}
-use Rattle.rules.proofs.Rules.{Adds, Type·refusals, inType, main-type-tells, nodeName-tells}
-use Rattle.rules.proofs.Matching.{stopOf, Matches, told-among, quiet-rule, bind-matches, after-matches, then-matches}
-use Rattle.rules.proofs.Matching.{told-matches, told-passes, quiet-then, quiet-seq, each-matches, bind-assoc, bind-pass, each-append, each-map, each-flat}
+use Rattle.rules.specs.Runner.{binds, reads, visits, unlessEmpty, initializers, nodeScript, waitingIn, script, Run, Ran}
+use Rattle.rules.specs.Runner.{bind, read, unchosen, choose, forget, perform, runGraph}
+use Rattle.rules.proofs.Matching.{Matches, quiet-rule, bind-matches, after-matches, then-matches, quiet-then, quiet-seq, each-matches}
+use Rattle.rules.proofs.Matching.{bind-assoc, bind-pass, each-append, each-map, each-flat}
 use Rattle.rules.proofs.Visits.{visit-once}
 use Rattle.rules.proofs.Defaults.{Agree, agree-first, agree-default, agree-new}
-
--- the judge's state and the runner's, under no choices
-abbrev pub InStep : Walk → Run → Type 0
-InStep w r = (w .scope ≡ r .bound) × (r .choices ≡ []) × (w .most ≡ r .most)
-
-abbrev InStepAlong : Along → Run → Type 0
-InStepAlong w r = InStep (w .walk) r
+use Rattle.rules.proofs.InStep.{InStep, InStepAlong, in-step-adds, define-matches, read-matches, tested-matches, naming-matches}
+use Rattle.rules.proofs.InStep.{type-matches, nodeName-matches}
 
 -- the IR version that the judge was told is the one that the runner finds
 abbrev pub Versioned : Bytes → Context → Type 0
 Versioned model c = c .ir-version ≡ numberOf Model·ir-version (message model (whole model))
-
--- odd names are no concern of the runner
-in-step-adds : (w v : Walk) (k : ℕ) (r : Run) → InStep w r → Adds w k v → InStep v r
-in-step-adds w v k r h a = (a .0 ∙ h .0, h .1, a .2 ∙ h .2)
-
-visible-found : (x : Bytes) (l : List Name) → visible x l ≡ present (find x l)
-unfolding visible find present
-visible-found x [] = refl
-visible-found x (n ∷ l) = go (same x (n .bytes)) (visible-found x l)
-  where
-    go : (b : Bool) → visible x l ≡ present (find x l) → (b || visible x l) ≡ present {A = ℕ} (elim b [ true ↦ some (n .place) | false ↦ find x l ])
-    go true e = refl
-    go false e = e
-
--- the place of the definition already visible is the defining place
-defined-found : (x : Bytes) (l : List Name) (p : ℕ) → find x l ≡ some p → definedAt x l ≡ p
-unfolding find definedAt present
-defined-found x [] p e = absurd (true≢false (sym (ap present e)))
-defined-found x (n ∷ l) p e = go (same x (n .bytes)) e (defined-found x l p)
-  where
-    go : (b : Bool) → _≡_ {A = Option ℕ} (elim b [ true ↦ some (n .place) | false ↦ find x l ]) (some p) → (find x l ≡ some p → definedAt x l ≡ p)
-        → elim b [ true ↦ n .place | false ↦ definedAt x l ] ≡ p
-    go true e ih = cc
-    go false e ih = ih e
-
--- ---- names
-
-found-in-step : (w : Walk) (x : Name) (r : Run) (o : Option ℕ) → InStep w r → find (x .bytes) (r .bound) ≡ o → visible (x .bytes) (w .scope) ≡ present o
-found-in-step w x r o h e = visible-found (x .bytes) (w .scope) ∙ ap (λ (l : List Name). present (find (x .bytes) l)) (h .0) ∙ ap present e
-
-define-matches : (full : ℕ → Bool) (w : Walk) (x : Name) (r : Run) → InStep w r → Matches InStep (define full w x) (bind r x)
-unfolding define bind withName withBound present _>>_ refuse_at:_when:_ refuse_at:_first:_when:_
-define-matches full w x r h = go (find (x .bytes) (r .bound)) refl
-  where
-    go : (o : Option ℕ) → find (x .bytes) (r .bound) ≡ o → Matches InStep (define full w x) (bind r x)
-    go none e = rw (found-in-step w x r none h e, e, define, bind)
-        (quiet-then InStep (refuse 40 at: x .place when: full (length (w .scope))) (pass (withName w x)) (pass (withBound r x))
-        (quiet-rule 40 (x .place) (full (length (w .scope))) refl)
-        (withBound r x, refl, (ap (λ (l : List Name). x ∷ l) (h .0), h .1, ap₂ (λ (n : ℕ) (l : List Name). max n (length l + 1)) (h .2) (h .0))))
-    go (some p) e =
-        let first : definedAt (x .bytes) (w .scope) ≡ p = defined-found (x .bytes) (w .scope) p (ap (find (x .bytes)) (h .0) ∙ e) in
-        rw (found-in-step w x r (some p) h e, first, e, define, bind) refl
-
--- a rule that tests whether a name is visible, with a number that is tied to a read
-read-matches : (n : ℕ) (w : Walk) (x : Name) (r : Run) → ((p : ℕ) → stopOf (record { number = n; place = p; first = 0 }) ≡ some (reading p)) → InStep w r
-    → Matches (λ _ s. InStep w s) (refuse n at: x .place when: not (visible (x .bytes) (w .scope))) (read r x)
-unfolding read withRead present refuse_at:_when:_
-read-matches n w x r q h = go (find (x .bytes) (r .bound)) refl
-  where
-    go : (o : Option ℕ) → find (x .bytes) (r .bound) ≡ o → Matches (λ _ s. InStep w s) (refuse n at: x .place when: not (visible (x .bytes) (w .scope))) (read r x)
-    go none e = rw (found-in-step w x r none h e, e, read) (rw (q (x .place)) refl)
-    go (some p) e = rw (found-in-step w x r (some p) h e, e, read) (withRead r (x .place) p, refl, h)
-
-module _ {C D : Type 0} (S : C → D → Type 0) (w : Walk) (x : Name) (f : Walk → Judged C) (o : Outcome _ D) where
-  tested-matches : Matches S (f (withTested w x)) o → Matches S (tested w x >>= f) o
-  unfolding tested _>>=_ _>>_ refuse_at:_when:_
-  tested-matches h = go (not (wellFormed (x .bytes)))
-    where
-      go : (b : Bool) → Matches S (refuse 21 at: x .place when: b >> pass (withTested w x) >>= f) o
-      go true = tt
-      go false = h
-
-  naming-matches : (empty : ℕ) → ((p : ℕ) → stopOf (record { number = empty; place = p; first = 0 }) ≡ none)
-      → Matches S (f (withTested w x)) o → Matches S (naming empty w x >>= f) o
-  unfolding naming _>>=_ _>>_ refuse_at:_when:_
-  naming-matches empty q h = go (isEmpty (x .bytes))
-    where
-      go : (a : Bool) → Matches S (refuse empty at: x .place when: a >> tested w x >>= f) o
-      go true = rw (q (x .place)) tt
-      go false = tested-matches h
-
-module _ (model : Bytes) where
-  type-matches : (c : Context) (v : Message) (w : Walk) (r : Run) → InStep w r → Matches InStep (inMain c (declaredType model v) w) (pass r)
-  unfolding contains
-  type-matches c v w r h =
-      let k = odds (inType model Any Any (λ f g. tt) (λ f g. any-all (message model f .fields)) c v) in
-      told-passes (Adds w k) InStep (inMain c (declaredType model v) w) r
-      (told-among (Adds w k) Any Type·refusals (inMain c (declaredType model v) w) (tt, tt, tt)
-      (main-type-tells model Any Any (λ f g. tt) (λ f g. any-all (message model f .fields)) c v w (tt, any-all (v .fields))))
-      (λ u a. in-step-adds w u k r h a)
-
-  nodeName-matches : {D : Type 0} (S : Along → D → Type 0) (earlier : List Bytes) (w : Walk) (m : Message) (f : Along → Judged Along) (o : Outcome _ D)
-      → ((n : Along) → Adds w (odds (bytesOf model Node·name m ∷ [])) (n .walk) → Matches S (f n) o)
-      → Matches S (nodeName model earlier w m >>= f) o
-  unfolding contains
-  nodeName-matches S earlier w m f o h =
-      let R : Along → Type 0 = λ n. Adds w (odds (bytesOf model Node·name m ∷ [])) (n .walk) in
-      told-matches R S (nodeName model earlier w m) f o
-      (told-among R Any (21 ∷ 29 ∷ []) (nodeName model earlier w m) (tt, tt, tt)
-      (nodeName-tells model Any Any (λ f g. tt) (λ f g. any-all (message model f .fields)) earlier w m (tt, any-all (m .fields)))) h
 
 -- ---- one level: `J` judges and `K` runs the graphs further in
 
@@ -182,7 +80,7 @@ module _ (model : Bytes) (full : ℕ → Bool) (c : Context) (version : Versione
       (bind-matches InStep InStep (J w f) (K (choose r) f) _ _ (nest w (choose r) f (h .0, ap unchosen (h .1), h .2)) (λ v s k. (_, refl, (h .0, k .1, k .2))))
 
   attribute-matches : (w : Along) (r : Run) (f : Field) → InStepAlong w r
-      → Matches InStepAlong (attribute model J w f) (each (λ s b. perform K s (visits b)) r (bodiesOf (message model f)))
+      → Matches InStepAlong (attribute model c J w f) (each (λ s b. perform K s (visits b)) r (bodiesOf (message model f)))
   unfolding attribute withTested
   attribute-matches w r f h =
       let t = withTested (w .walk) (nameOf model Attribute·name (message model f)) in
@@ -212,14 +110,19 @@ module _ (model : Bytes) (full : ℕ → Bool) (c : Context) (version : Versione
       bind-matches InStep InStepAlong (each (nodeInput model) (n .walk) (allOf Node·input m)) _ _ _
       (each-matches InStep (nodeInput model) (λ s i. each (perform K) s (unlessEmpty reads (nameIn model i)))
       (λ v s i k. node-input v s i k) (allOf Node·input m) (n .walk) r (in-step-adds t (n .walk) _ r h a))
-      (λ i s k. bind-matches InStepAlong InStepAlong (each (attribute model J) (along i) (allOf Node·attribute m)) _ _ _
-      (each-matches InStepAlong (attribute model J) (λ s a. each (λ s b. perform K s (visits b)) s (bodiesOf (message model a)))
+      (λ i s k. bind-matches InStepAlong InStepAlong (each (attribute model c J) (along i) (allOf Node·attribute m)) _ _ _
+      (each-matches InStepAlong (attribute model c J) (λ s a. each (λ s b. perform K s (visits b)) s (bodiesOf (message model a)))
       (λ v s a k. attribute-matches v s a k) (allOf Node·attribute m) (along i) s k)
       (λ v t k. quiet-then InStepAlong (refuse 34 at: _ when: _) _ _ (quiet-rule 34 _ _ refl)
       (after-matches InStep InStepAlong (each (nodeOutput model full) (v .walk) (allOf Node·output m)) _ _
       (each-matches InStep (nodeOutput model full) (λ s o. each (perform K) s (unlessEmpty binds (nameIn model o))) (λ v s o k. node-output v s o k)
       (allOf Node·output m) (v .walk) t k)
       (λ v s k. (s, refl, k)))))))))
+
+  -- the nodes of a graph or of a function
+  pub nodes-match : (ns : List Field) (w : Along) (r : Run) → InStepAlong w r
+      → Matches InStepAlong (each (node model full c J) w ns) (each (λ s n. each (perform K) s (nodeScript model n)) r ns)
+  nodes-match = each-matches InStepAlong (node model full c J) (λ s n. each (perform K) s (nodeScript model n)) (λ v s n k. node-matches v s n k)
 
   -- ---- initializers, with their defaults
 
@@ -295,7 +198,7 @@ module _ (model : Bytes) (full : ℕ → Bool) (c : Context) (version : Versione
       (λ v s k. bind-matches InStepAlong InStep (each (initializer model full c (inputsOf model g)) (along v) (allOf Graph·initializer g)) _ _ _
       (initializers-match (inputsOf model g) (allOf Graph·initializer g) (along v) _ s k (waiting-agree g))
       (λ i t k. bind-matches InStepAlong InStep (each (node model full c J) (along (i .walk)) (allOf Graph·node g)) _ _ _
-      (each-matches InStepAlong (node model full c J) (λ s n. each (perform K) s (nodeScript model n)) (λ v s n k. node-matches v s n k) (allOf Graph·node g) (along (i .walk)) t k)
+      (nodes-match (allOf Graph·node g) (along (i .walk)) t k)
       (λ n u k. each-matches InStep (output model c) (λ s o. perform K s (reads (nameOf model ValueInfo·name (message model o))))
       (λ v s o k. output-matches v s o k) (allOf Graph·output g) (n .walk) u k))))))
 

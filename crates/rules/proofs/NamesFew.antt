@@ -1,5 +1,5 @@
 -- A model has few names: fields lie apart, and each takes a byte or more.
-use Prim.Native.Nat.{ℕ, zero, suc, _+_, _-_, _*_, _^_, _≤_, _<_}
+use Prim.Native.Nat.{ℕ, zero, suc, _+_, _-_, _*_, _≤_, _<_}
 use native.Mathlib.Omega.{arith}
 use mathlib.Core.Path.{_≡_, ap}
 use mathlib.Core.Bool.{Bool, true, false}
@@ -17,9 +17,10 @@ use Rattle.wire.proofs.Reading.{Fits}
 use Rattle.wire.proofs.Fields.{fields-ordered, message-ordered, ordered-widen, keep-ordered, ordered-all, all-of-ordered}
 use Rattle.wire.proofs.Along.{allFrom}
 use Rattle.schema.specs.Numbers.{Graph·node, Graph·initializer, Graph·input, Graph·output, Node·input, Node·output, Node·attribute}
+use Rattle.schema.specs.Numbers.{Function·input, Function·output, Function·attribute, Function·node, Function·attribute-proto, Attribute·name}
 use Rattle.schema.specs.Numbers.{Tensor·name, ValueInfo·type, TypeProto·tensor, TensorType·shape, Shape·dim}
 use Rattle.rules.specs.Names.{bodiesOf}
-use Rattle.rules.specs.Count.{isOdd, odds, partOf, dimParams, valueNames, attributeNames, nodeNames, graphNames, namesIn}
+use Rattle.rules.specs.Count.{isOdd, odds, partOf, dimParams, valueNames, attributeNames, nodeNames, graphNames, namesIn, functionNames}
 
 -- ---- lengths of lists
 
@@ -61,7 +62,7 @@ joins-grows most j a b h =
     omega arith
 
 -- each field, its tag counted in, holds no more than its bytes may
-abbrev Within : (ℕ → ℕ) → (Field → List Bytes) → Type 0
+abbrev pub Within : (ℕ → ℕ) → (Field → List Bytes) → Type 0
 Within most g = (f : Field) → f .place < f .start → f .start ≤ f .next → length (g f) ≤ most (f .next - f .place)
 
 spread : (most : ℕ → ℕ) → Joins most → (g : Field → List Bytes) → Within most g → (lo hi : ℕ) (fs : List Field) → Ordered lo hi fs
@@ -180,13 +181,31 @@ names-most model zero main f h k = omega arith
 names-most model (suc left) main f h k =
     graph-few model (namesIn model left false) (most left) (most-joins left) (names-most model left false) main f h k
 
-most-eight : (n : ℕ) → most 8 n ≡ 48 * n
-unfolding most
-most-eight n = omega arith
+-- ---- the names of a main graph to eight depths, and of a function
 
-pub names-few : (model : Bytes) (main : Bool) (f : Field) → f .place < f .start → f .start ≤ f .next → f .next ≤ length model → length model < 2 ^ 32
-    → length (namesIn model 8 main f) < 2 ^ 64
-names-few model main f h k l s =
-    let n = names-most model 8 main f h k in
-    let e = most-eight (f .next - f .place) in
+pub names-few : (model : Bytes) (main : Bool) → Within (λ n. 48 * n) (namesIn model 8 main)
+unfolding most
+names-few model main f h k = let n = names-most model 8 main f h k in omega arith
+
+-- its own name has the byte of the tag
+pub function-names-few : (model : Bytes) → Within (λ n. 49 * n) (functionNames model (namesIn model 7 false))
+unfolding functionNames most
+function-names-few model f h k =
+    let m = message model f in
+    let attributes = map (text model) (allOf Function·attribute m) in
+    let defaults = map (λ a. bytesOf model Attribute·name (message model a)) (allOf Function·attribute-proto m) in
+    let ins = map (text model) (allOf Function·input m) in
+    let nodes = flatMap (nodeNames model (namesIn model 7 false)) (allOf Function·node m) in
+    let outs = map (text model) (allOf Function·output m) in
+    let e : length (attributes ++ defaults ++ ins ++ nodes ++ outs) ≡ length (attributes ++ defaults ++ ins ++ nodes) + length outs =
+        length-append (attributes ++ defaults ++ ins ++ nodes) outs in
+    let e′ : length (attributes ++ defaults ++ ins ++ nodes) ≡ length (attributes ++ defaults ++ ins) + length nodes = length-append (attributes ++ defaults ++ ins) nodes in
+    let e″ : length (attributes ++ defaults ++ ins) ≡ length (attributes ++ defaults) + length ins = length-append (attributes ++ defaults) ins in
+    let e‴ : length (attributes ++ defaults) ≡ length attributes + length defaults = length-append attributes defaults in
+    let a = map-all model (text model) Function·attribute f in
+    let d = map-all model (λ a. bytesOf model Attribute·name (message model a)) Function·attribute-proto f in
+    let i = map-all model (text model) Function·input f in
+    let o = map-all model (text model) Function·output f in
+    let n = spread-all model (λ x. most 7 x + 3 * x) (λ x y. let z = most-joins 7 x y in omega arith) (nodeNames model (namesIn model 7 false))
+    (node-few model (namesIn model 7 false) (most 7) (most-joins 7) (names-most model 7 false)) Function·node f in
     omega arith

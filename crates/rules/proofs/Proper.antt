@@ -7,33 +7,36 @@ use mathlib.Core.Bool.{Bool, true, false}
 use mathlib.Core.List.{List, [], _∷_}
 use lib.ListN.{length}
 use lib.Dec.{T}
-use Rattle.varint.specs.Outcome.{Judged}
+use Rattle.varint.specs.Outcome.{each, Judged}
 use Rattle.varint.specs.declared.Refusal.{Refusal}
 use Rattle.wire.specs.declared.Field.{Field}
 use Rattle.varint.specs.Lists.{isEmpty, contains}
 use Rattle.varint.specs.Bytes.{Bytes, same}
-use Rattle.wire.specs.Message.{Message, allOf, firstOf, text, message, whole}
+use Rattle.wire.specs.Message.{Message, allOf, firstOf, numberOf, text, message, whole}
 use Rattle.varint.proofs.Lists.{All, all-map, subset}
 use Rattle.varint.proofs.Tells.{Tells, Any, Among, tells-bind, tells-weaken, tells-seq, tells-if, tells-option, tells-rule, tells-first, tells-each}
 use Rattle.wire.proofs.Reading.{Fits}
 use Rattle.wire.proofs.Fields.{message-ordered, ordered-all}
-use Rattle.schema.specs.Numbers.{Model·graph, Graph·node, Graph·name, Graph·initializer, Graph·input, Graph·output}
-use Rattle.schema.specs.Numbers.{Graph·sparse-initializer, ValueInfo·name, Tensor·name, Tensor·data-type}
-use Rattle.schema.specs.Numbers.{Node·input, Node·output, Node·op-type, Node·attribute, Node·domain, Attribute·name}
+use Rattle.schema.specs.Numbers.{Model·ir-version, Model·graph, Model·functions, Function·input, Function·output, Function·node}
+use Rattle.schema.specs.Numbers.{Graph·node, Graph·name, Graph·initializer, Graph·input, Graph·output, Graph·sparse-initializer, ValueInfo·name}
+use Rattle.schema.specs.Numbers.{Tensor·name, Tensor·data-type, Node·input, Node·output, Node·op-type, Node·attribute, Node·domain, Attribute·name}
 use Rattle.schema.specs.FirstWalk.{firstWalk}
 use Rattle.schema.proofs.Refusals.{FirstWalk·refusals, firstWalk-tells}
 use Rattle.rules.specs.Names.{Name, nameOf, nameIn, bodiesOf, inputsOf}
-use Rattle.rules.specs.Walk.{Context, nestedIn, inMain, Walk, GraphJudge, start, withName, withNode, withTested, leaving}
+use Rattle.rules.specs.Walk.{Context, nestedIn, inMain, Walk, GraphJudge, start, withName, withNode, withTested, leaving, afresh}
 use Rattle.rules.specs.Walk.{Along, along, definedAt, tested, naming, define}
 use Rattle.rules.specs.Types.{declaredType}
 use Rattle.rules.specs.Node.{nodeName, nodeInput, nodeOutput, body, attribute, node}
 use Rattle.rules.specs.Graph.{input, isDefault, defaultOrNew, initializer, output, graphWith, graph}
+use Rattle.rules.specs.Function.{functionInput, functionOutput, Functions, functions, functionHead, functionBody, function}
 use Rattle.rules.specs.Header.{inModel, header, secondWalkTo, secondWalk}
 use Rattle.rules.specs.Verdict.{fills, verdict}
 use Rattle.rules.specs.Refusals.{refusals}
 use Rattle.rules.specs.Demands.{RefusedProperly}
 use Rattle.rules.proofs.Rules.{more-numbers, Type·refusals, Header·refusals, Adds, GoodMessage, good-message, good-all, good-bodies}
 use Rattle.rules.proofs.Rules.{good-first, good-place, main-type-tells, nodeName-tells, header-tells}
+use Rattle.rules.proofs.FunctionRules.{Function·refusals, Output·refusals, Headed, function-head-tells, function-output-tells}
+use Rattle.rules.proofs.MainGraph.{mainGraph}
 
 module _ (model : Bytes) where
   abbrev Good : Field → Type 0
@@ -66,6 +69,9 @@ module _ (model : Bytes) where
 
   abbrev ScopedAlong : Along → Type 0
   ScopedAlong w = Scoped (w .walk)
+
+  abbrev ScopedFunctions : Functions → Type 0
+  ScopedFunctions w = Scoped (w .walk)
 
   defined-place : (x : Bytes) (scope : List Name) → Names scope → Place (definedAt x scope)
   unfolding definedAt
@@ -106,11 +112,10 @@ module _ (model : Bytes) where
   unfolding tested withTested contains
   proper-tested w x s p = tells-rule Scoped Proper 21 _ _ _ (λ b. (tt, p, inl refl)) (λ b. s)
 
-  proper-naming : (empty n : ℕ) (w : Walk) (m : Message)
-      → T (contains empty refusals) → Scoped w → Placed m → Tells Scoped Proper (naming empty w (nameOf model n m))
-  unfolding naming nameOf
-  proper-naming empty n w m q s g =
-      tells-rule Scoped Proper empty _ _ _ (λ b. (q, place n m g, inl refl)) (λ b. proper-tested w (nameOf model n m) s (place n m g))
+  proper-naming : (empty : ℕ) (w : Walk) (x : Name)
+      → T (contains empty refusals) → Scoped w → Place (x .place) → Tells Scoped Proper (naming empty w x)
+  unfolding naming
+  proper-naming empty w x q s p = tells-rule Scoped Proper empty _ _ _ (λ b. (q, p, inl refl)) (λ b. proper-tested w x s p)
 
   proper-type : (c : Context) (v : Message) (w : Walk) → Scoped w → Placed v → Tells Scoped Proper (inMain c (declaredType model v) w)
   unfolding subset contains
@@ -128,19 +133,21 @@ module _ (model : Bytes) where
     unfolding input nameOf contains
     proper-input c w f s g =
         let m = message model f in
-        tells-bind Scoped Scoped Proper _ _ (proper-naming 22 ValueInfo·name w m tt s (placed f g)) (λ t h.
-        tells-bind Scoped Scoped Proper _ _ (proper-define t (nameOf model ValueInfo·name m) h (place ValueInfo·name m (placed f g)))
-        (λ v i. proper-type c m v i (placed f g)))
+        let x = nameOf model ValueInfo·name m in
+        let p = place ValueInfo·name m (placed f g) in
+        tells-bind Scoped Scoped Proper _ _ (proper-naming 22 w x tt s p) (λ t h.
+        tells-bind Scoped Scoped Proper _ _ (proper-define t x h p) (λ v i. proper-type c m v i (placed f g)))
 
     proper-initializer : (c : Context) (inputs : List Bytes) (w : Along) (f : Field) → ScopedAlong w → Good f → Tells ScopedAlong Proper (initializer model full c inputs w f)
     unfolding initializer defaultOrNew nameOf contains
     proper-initializer c inputs w f s g =
         let m = message model f in
         let x = nameOf model Tensor·name m in
-        tells-bind Scoped ScopedAlong Proper _ _ (proper-naming 22 Tensor·name (w .walk) m tt s (placed f g)) (λ t h.
-        tells-rule ScopedAlong Proper 43 _ _ _ (λ b. (tt, place Tensor·name m (placed f g), inl refl)) (λ b.
+        let p = place Tensor·name m (placed f g) in
+        tells-bind Scoped ScopedAlong Proper _ _ (proper-naming 22 (w .walk) x tt s p) (λ t h.
+        tells-rule ScopedAlong Proper 43 _ _ _ (λ b. (tt, p, inl refl)) (λ b.
         tells-bind Scoped ScopedAlong Proper _ _
-        (tells-if Scoped Proper (isDefault c inputs (w .earlier) (x .bytes)) _ _ (λ b. h) (λ b. proper-define t x h (place Tensor·name m (placed f g)))) (λ v i.
+        (tells-if Scoped Proper (isDefault c inputs (w .earlier) (x .bytes)) _ _ (λ b. h) (λ b. proper-define t x h p)) (λ v i.
         tells-rule ScopedAlong Proper 26 _ _ _ (λ b. (tt, place Tensor·data-type m (placed f g), inl refl)) (λ b. i))))
 
     proper-node-input : (w : Walk) (f : Field) → Scoped w → Good f → Tells Scoped Proper (nodeInput model w f)
@@ -160,8 +167,9 @@ module _ (model : Bytes) where
     unfolding output nameOf contains
     proper-output c w f s g =
         let m = message model f in
-        tells-bind Scoped Scoped Proper _ _ (proper-naming 22 ValueInfo·name w m tt s (placed f g)) (λ v h.
-        tells-rule Scoped Proper 35 _ _ _ (λ b. (tt, place ValueInfo·name m (placed f g), inl refl)) (λ b. proper-type c m v h (placed f g)))
+        let p = place ValueInfo·name m (placed f g) in
+        tells-bind Scoped Scoped Proper _ _ (proper-naming 22 w (nameOf model ValueInfo·name m) tt s p) (λ v h.
+        tells-rule Scoped Proper 35 _ _ _ (λ b. (tt, p, inl refl)) (λ b. proper-type c m v h (placed f g)))
 
     -- ---- one level: `J` judges the graphs further in
 
@@ -170,40 +178,41 @@ module _ (model : Bytes) where
       unfolding body leaving
       proper-body w f s g = tells-bind Scoped Scoped Proper (J w f) _ (nest w f s g) (λ v _. s)
 
-      proper-attribute : (w : Along) (f : Field) → ScopedAlong w → Good f → Tells ScopedAlong Proper (attribute model J w f)
+      proper-attribute : (w : Along) (f : Field) → ScopedAlong w → Good f → Tells ScopedAlong Proper (attribute model c J w f)
       unfolding attribute message nameOf contains
       proper-attribute w f s g =
           let m = message model f in
-          tells-bind Scoped ScopedAlong Proper _ _ (proper-naming 22 Attribute·name (w .walk) m tt s (placed f g)) (λ t h.
-          tells-rule ScopedAlong Proper 31 _ _ _ (λ b. (tt, place Attribute·name m (placed f g), inl refl)) (λ b.
+          let p = place Attribute·name m (placed f g) in
+          tells-bind Scoped ScopedAlong Proper _ _ (proper-naming 22 (w .walk) (nameOf model Attribute·name m) tt s p) (λ t h.
+          tells-rule ScopedAlong Proper 31 _ _ _ (λ b. (tt, p, inl refl)) (λ b.
           tells-rule ScopedAlong Proper 33 _ _ _ (λ b. (tt, good-at f g, inl refl)) (λ b.
           tells-rule ScopedAlong Proper 32 _ _ _ (λ b. (tt, good-at f g, inl refl)) (λ b.
           tells-bind Scoped ScopedAlong Proper _ _ (tells-each Good Scoped Proper (body J) (λ v k t h. proper-body v k t h) (bodiesOf m)
           (good-bodies model Good Place good-at good-in m (placed f g)) t h) (λ v i. i)))))
 
       proper-node : (w : Along) (f : Field) → ScopedAlong w → Good f → Tells ScopedAlong Proper (node model full c J w f)
-      unfolding node withNode along message subset contains
+      unfolding node withNode along message nameOf subset contains
       proper-node w f s g =
           let m = message model f in
           let q = placed f g in
-          tells-bind Scoped ScopedAlong Proper _ _ (proper-naming 27 Node·op-type (w .walk) m tt s q) (λ t h.
+          tells-bind Scoped ScopedAlong Proper _ _ (proper-naming 27 (w .walk) (nameOf model Node·op-type m) tt s (place Node·op-type m q)) (λ t h.
           tells-rule ScopedAlong Proper 28 _ _ _ (λ b. (tt, place Node·domain m q, inl refl)) (λ b.
           tells-bind ScopedAlong ScopedAlong Proper _ _ (proper-adds (λ n. n .walk) t _ (21 ∷ 29 ∷ []) (nodeName model (w .earlier) t m) tt h
           (nodeName-tells model Good Place good-at good-in (w .earlier) t m q)) (λ n h.
           tells-bind Scoped ScopedAlong Proper _ _ (tells-each Good Scoped Proper (nodeInput model) (λ v k t h. proper-node-input v k t h)
           (allOf Node·input m) (parts Node·input m q) (n .walk) h) (λ i h.
-          tells-bind ScopedAlong ScopedAlong Proper _ _ (tells-each Good ScopedAlong Proper (attribute model J) (λ v k t h. proper-attribute v k t h)
+          tells-bind ScopedAlong ScopedAlong Proper _ _ (tells-each Good ScopedAlong Proper (attribute model c J) (λ v k t h. proper-attribute v k t h)
           (allOf Node·attribute m) (parts Node·attribute m q) (along i) h) (λ a h.
           tells-rule ScopedAlong Proper 34 _ _ _ (λ b. (tt, good-at f g, inl refl)) (λ b.
           tells-bind Scoped ScopedAlong Proper _ _ (tells-each Good Scoped Proper (nodeOutput model full) (λ v k t h. proper-node-output v k t h)
           (allOf Node·output m) (parts Node·output m q) (a .walk) h) (λ v u. u)))))))
 
       proper-graph : (w : Walk) (f : Field) → Scoped w → Good f → Tells Scoped Proper (graphWith model full c J w f)
-      unfolding graphWith along contains
+      unfolding graphWith along nameOf contains
       proper-graph w f s h =
           let g = message model f in
           let q = placed f h in
-          tells-bind Scoped Scoped Proper _ _ (proper-naming 20 Graph·name w g tt s q) (λ t h.
+          tells-bind Scoped Scoped Proper _ _ (proper-naming 20 w (nameOf model Graph·name g) tt s (place Graph·name g q)) (λ t h.
           tells-rule Scoped Proper 16 _ _ _ (λ b. (tt, place Graph·sparse-initializer g q, inl refl)) (λ b.
           tells-bind Scoped Scoped Proper _ _ (tells-each Good Scoped Proper (input model full c) (λ v k t h. proper-input c v k t h) (allOf Graph·input g)
           (parts Graph·input g q) t h) (λ v h.
@@ -219,14 +228,59 @@ module _ (model : Bytes) where
     proper-depths zero c w f s g = (tt, good-at f g, inl refl)
     proper-depths (suc left) c w f s g = proper-graph c (graph model full left (nestedIn c)) (λ w f s g. proper-depths left (nestedIn c) w f s g) w f s g
 
+    -- ---- functions
+
+    proper-function-input : (w : Walk) (f : Field) → Scoped w → Good f → Tells Scoped Proper (functionInput model full w f)
+    unfolding functionInput nameIn contains
+    proper-function-input w f s g =
+        let x = nameIn model f in
+        tells-bind Scoped Scoped Proper _ _ (proper-naming 22 w x tt s (good-at f g)) (λ t h. proper-define t x h (good-at f g))
+
+    proper-function-output : (w : Walk) (f : Field) → Scoped w → Good f → Tells Scoped Proper (functionOutput model w f)
+    unfolding subset contains
+    proper-function-output w f s g =
+        proper-adds (λ u. u) w _ Output·refusals (functionOutput model w f) tt s (function-output-tells model Good Place good-at good-in w f g)
+
+    module _ (list : Bytes) where
+      proper-function-body : (left : ℕ) (c : Context) (w : Walk) (m : Message) → Scoped w → Placed m
+          → Tells Scoped Proper (functionBody model full c (λ u g. graph model full left (nestedIn c) u g) w m)
+      unfolding functionBody along
+      proper-function-body left c w m s q =
+          let J : GraphJudge = graph model full left (nestedIn c) in
+          tells-bind Scoped Scoped Proper _ _ (tells-each Good Scoped Proper (functionInput model full) (λ v k t h. proper-function-input v k t h)
+          (allOf Function·input m) (parts Function·input m q) w s) (λ i h.
+          tells-bind ScopedAlong Scoped Proper _ _ (tells-each Good ScopedAlong Proper (node model full c J)
+          (λ v k t h. proper-node c J (λ u b s g. proper-depths left (nestedIn c) u b s g) v k t h)
+          (allOf Function·node m) (parts Function·node m q) (along i) h) (λ n h.
+          tells-each Good Scoped Proper (functionOutput model) (λ v k t h. proper-function-output v k t h) (allOf Function·output m)
+          (parts Function·output m q) (n .walk) h))
+
+      -- nothing is visible at first
+      proper-function : (left v : ℕ) (w : Functions) (f : Field) → Good f → Tells ScopedFunctions Proper (function model list full left v w f)
+      unfolding function afresh leaving start subset contains
+      proper-function left v w f g =
+          let m = message model f in
+          let head = functionHead model list v (w .earlier) (afresh (w .walk)) m in
+          let P : Refusal → Type 0 = Among Function·refusals Place in
+          tells-bind (λ h. Scoped (h .walk)) ScopedFunctions Proper head _
+          (proper-adds (λ h. h .walk) (afresh (w .walk)) _ Function·refusals head tt tt
+          (tells-weaken (Headed model v (afresh (w .walk)) m) (λ h. Adds (afresh (w .walk)) _ (h .walk)) P P head (λ h a. a .0) (λ r p. p)
+          (function-head-tells model Good Place good-at good-in list v (w .earlier) (afresh (w .walk)) m (placed f g)))) (λ h s.
+          tells-bind Scoped ScopedFunctions Proper _ _ (proper-function-body left (h .around) (h .walk) m s (placed f g)) (λ b u. u))
+
     proper-second : (list : Bytes) → Tells Scoped Proper (secondWalk model list full)
-    unfolding secondWalk secondWalkTo start message whole subset contains
+    unfolding secondWalk secondWalkTo functions start message whole subset contains
     proper-second list =
         let m = message model (whole model) in
+        let v = numberOf Model·ir-version m in
         tells-bind Any Scoped Proper _ _ (proper-among Any Header·refusals (header model list m) tt
         (header-tells model Good Place good-at good-in list m all)) (λ imports _.
-        tells-option Scoped Proper Good (firstOf Model·graph m) _ _ (good-first model Good Place good-at good-in Model·graph m all) (tt, inl refl, inl refl)
-        (λ g h. proper-depths 8 (inModel (message model (whole model)) imports) start g tt h))
+        tells-bind Scoped Scoped Proper (mainGraph model full 8 (inModel m imports) (firstOf Model·graph m)) _
+        (tells-option Scoped Proper Good (firstOf Model·graph m) _ _ (good-first model Good Place good-at good-in Model·graph m all) (tt, inl refl, inl refl)
+        (λ g h. proper-depths 8 (inModel m imports) start g tt h)) (λ w s.
+        tells-bind ScopedFunctions Scoped Proper (each (function model list full 7 v) (functions w) (allOf Model·functions m)) _
+        (tells-each Good ScopedFunctions Proper (function model list full 7 v) (λ u f _ g. proper-function list 7 v u f g)
+        (allOf Model·functions m) (parts Model·functions m all) (functions w) s) (λ f u. u)))
       where
         all : Placed (message model (whole model))
         all = (inl refl, ordered-all 0 (length model) (message model (whole model) .fields) (message-ordered model (whole model)))

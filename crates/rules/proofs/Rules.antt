@@ -16,7 +16,7 @@ use Rattle.varint.specs.Bytes.{Bytes}
 use Rattle.wire.specs.Message.{Message, allOf, firstOf, placeOf, text, bytesOf, message}
 use Rattle.varint.proofs.Lists.{All, If, all-keep, all-first, subset, contains-subset}
 use Rattle.varint.proofs.Tells.{Tells, Any, Among, tells-bind, tells-weaken, tells-if, tells-rule, tells-each}
-use Rattle.schema.specs.Numbers.{Model·ir-version, Model·opset-import, Model·functions, ValueInfo·type, TypeProto·tensor}
+use Rattle.schema.specs.Numbers.{Model·ir-version, Model·opset-import, ValueInfo·type, TypeProto·tensor}
 use Rattle.schema.specs.Numbers.{TensorType·elem-type, TensorType·shape, Shape·dim, Dimension·dim-value, Dimension·dim-param, Node·name}
 use Rattle.rules.specs.Identifier.{identifier}
 use Rattle.rules.specs.Names.{Name, nameOf, nameIn, bodiesOf}
@@ -24,7 +24,8 @@ use Rattle.rules.specs.Walk.{Context, inMain, Walk, oddity, withTested, 
 use Rattle.rules.specs.Types.{dimParam, dim, tensorType, declaredType}
 use Rattle.rules.specs.Count.{isOdd, odds, partOf, dimParams}
 use Rattle.rules.specs.Node.{nodeName}
-use Rattle.rules.specs.Header.{opsetImport, header}
+use Rattle.rules.specs.Import.{opsetImport}
+use Rattle.rules.specs.Header.{header}
 
 pub more-numbers : {A : Type 0} (R : A → Type 0) (Q : ℕ → Type 0) (xs ys : List ℕ) (o : Judged A) → T (subset xs ys) → Tells R (Among xs Q) o → Tells R (Among ys Q) o
 more-numbers R Q xs ys o s t = tells-weaken R R (Among xs Q) (Among ys Q) o (λ a h. h) (λ r h. (contains-subset xs ys (r .number) s (h .0), h .1, h .2)) t
@@ -32,8 +33,11 @@ more-numbers R Q xs ys o s t = tells-weaken R R (Among xs Q) (Among ys Q) o (λ 
 abbrev pub Type·refusals : List ℕ
 Type·refusals = 21 ∷ 24 ∷ 25 ∷ 37 ∷ 38 ∷ []
 
+abbrev pub Import·refusals : List ℕ
+Import·refusals = 13 ∷ 14 ∷ []
+
 abbrev pub Header·refusals : List ℕ
-Header·refusals = 10 ∷ 11 ∷ 12 ∷ 13 ∷ 14 ∷ 15 ∷ []
+Header·refusals = 10 ∷ 11 ∷ 12 ∷ 13 ∷ 14 ∷ []
 
 -- ---- a rule that only tests names leaves the walk as it was, but for the odd ones among them
 
@@ -83,15 +87,22 @@ module _ (P : Refusal → Type 0) (w : Walk) (x : Name) where
   unfolding naming
   naming-tells empty q p = tells-rule (Adds w (odds (x .bytes ∷ []))) P empty _ _ _ (λ b. q) (λ b. tested-tells b p)
 
+-- steps over a state that holds a walk
+module _ {A S : Type 0} (walkOf : S → Walk) (Good : A → Type 0) (P : Refusal → Type 0) (k : A → List Bytes) (step : S → A → Judged S)
+    (one : (s : S) (a : A) → Good a → Tells (λ t. Adds (walkOf s) (odds (k a)) (walkOf t)) P (step s a)) where
+  pub adds-along : (list : List A) → All Good list → (s : S) → Tells (λ t. Adds (walkOf s) (odds (flatMap k list)) (walkOf t)) P (each step s list)
+  unfolding each flatMap odds keep
+  adds-along [] g s = (refl, refl, refl, omega arith)
+  adds-along (a ∷ more) g s =
+      let R : S → Type 0 = λ u. Adds (walkOf s) (odds (k a ++ flatMap k more)) (walkOf u) in
+      tells-bind (λ t. Adds (walkOf s) (odds (k a)) (walkOf t)) R P (step s a) _ (one s a (g .0)) (λ t h.
+      tells-weaken (λ u. Adds (walkOf t) (odds (flatMap k more)) (walkOf u)) R P P (each step t more)
+      (λ u i. let e = odds-append (k a) (flatMap k more) in (i .0 ∙ h .0, i .1 ∙ h .1, i .2 ∙ h .2, omega arith)) (λ r p. p) (adds-along more (g .1) t))
+
 module _ {A : Type 0} (Good : A → Type 0) (P : Refusal → Type 0) (k : A → List Bytes) (step : Walk → A → Judged Walk)
     (one : (w : Walk) (a : A) → Good a → Tells (Adds w (odds (k a))) P (step w a)) where
   pub adds-each : (list : List A) → All Good list → (w : Walk) → Tells (Adds w (odds (flatMap k list))) P (each step w list)
-  unfolding each flatMap odds keep
-  adds-each [] g w = (refl, refl, refl, omega arith)
-  adds-each (a ∷ more) g w =
-      tells-bind (Adds w (odds (k a))) (Adds w (odds (k a ++ flatMap k more))) P (step w a) _ (one w a (g .0)) (λ v h.
-      tells-weaken (Adds v (odds (flatMap k more))) (Adds w (odds (k a ++ flatMap k more))) P P (each step v more)
-      (λ u i. let e = odds-append (k a) (flatMap k more) in (i .0 ∙ h .0, i .1 ∙ h .1, i .2 ∙ h .2, omega arith)) (λ r p. p) (adds-each more (g .1) v))
+  adds-each = adds-along (λ w. w) Good P k step one
 
 module _ (model : Bytes) (Good : Field → Type 0) (Q : ℕ → Type 0) (good-at : (f : Field) → Good f → Q (f .place))
     (good-in : (f : Field) → Good f → All Good (message model f .fields)) where
@@ -219,21 +230,26 @@ module _ (model : Bytes) (Good : Field → Type 0) (Q : ℕ → Type 0) (good-at
       (tested-tells (Among (21 ∷ 29 ∷ []) Q) w (nameOf model Node·name m) b (tt, good-place Node·name m g, refl)) (λ v h.
       tells-rule _ (Among (21 ∷ 29 ∷ []) Q) 29 _ _ _ (λ b. (tt, good-place Node·name m g, refl)) (λ b. h)))
 
-  -- ---- the header
+  -- ---- imports and the header
 
-  import-tells : (list : Bytes) (imports : List Bytes) (f : Field) → Good f → Tells Any (Among Header·refusals Q) (opsetImport model list imports f)
+  import-tells : (list : Bytes) (imports : List Bytes) (f : Field) → Good f → Tells Any (Among Import·refusals Q) (opsetImport model list imports f)
   unfolding opsetImport contains message
   import-tells list imports f g =
-      tells-rule Any (Among Header·refusals Q) 13 _ _ _ (λ b. (tt, good-at f g, refl))
-      (λ b. tells-rule Any (Among Header·refusals Q) 14 _ _ _ (λ b. (tt, good-at f g, refl)) (λ b. tt))
+      tells-rule Any (Among Import·refusals Q) 13 _ _ _ (λ b. (tt, good-at f g, refl))
+      (λ b. tells-rule Any (Among Import·refusals Q) 14 _ _ _ (λ b. (tt, good-at f g, refl)) (λ b. tt))
+
+  -- the imports of a model or of a function, which are its fields with number `n`, among all that it can be refused for
+  pub imports-tell : (list : Bytes) (numbers : List ℕ) (n : ℕ) (m : Message) → T (subset Import·refusals numbers) → GoodMessage m
+      → Tells Any (Among numbers Q) (each (opsetImport model list) [] (allOf n m))
+  imports-tell list numbers n m s g =
+      more-numbers Any Q Import·refusals numbers (each (opsetImport model list) [] (allOf n m)) s
+      (tells-each Good Any (Among Import·refusals Q) (opsetImport model list) (λ imports f _ k. import-tells list imports f k)
+      (allOf n m) (good-all n m g) [] tt)
 
   pub header-tells : (list : Bytes) (m : Message) → GoodMessage m → Tells Any (Among Header·refusals Q) (header model list m)
-  unfolding header contains
+  unfolding header contains subset
   header-tells list m g =
       tells-rule Any (Among Header·refusals Q) 10 _ _ _ (λ b. (tt, good-place Model·ir-version m g, refl)) (λ b.
       tells-rule Any (Among Header·refusals Q) 11 _ _ _ (λ b. (tt, g .0, refl)) (λ b.
       tells-rule Any (Among Header·refusals Q) 12 _ _ _ (λ b. (tt, g .0, refl)) (λ b.
-      tells-bind Any Any (Among Header·refusals Q) _ _
-      (tells-each Good Any (Among Header·refusals Q) (opsetImport model list) (λ imports f _ k. import-tells list imports f k)
-      (allOf Model·opset-import m) (good-all Model·opset-import m g) [] tt) (λ imports _.
-      tells-rule Any (Among Header·refusals Q) 15 _ _ _ (λ b. (tt, good-place Model·functions m g, refl)) (λ b. tt)))))
+      imports-tell list Header·refusals Model·opset-import m tt g)))

@@ -15,9 +15,10 @@ use Rattle.wire.specs.Order.{Ordered}
 use Rattle.varint.proofs.Lists.{true-T, All, all-append, all-flat, all-mapped}
 use Rattle.varint.proofs.Tells.{Any, any-all}
 use Rattle.wire.proofs.Fields.{message-ordered, keep-ordered, all-of-ordered, ordered-flat}
-use Rattle.schema.specs.Numbers.{Graph·node, Graph·initializer, Graph·input, Graph·output, Node·input, Node·output, Node·attribute, Tensor·name, ValueInfo·name}
+use Rattle.schema.specs.Numbers.{Function·input, Function·output, Function·node, Graph·node, Graph·initializer, Graph·input, Graph·output}
+use Rattle.schema.specs.Numbers.{Node·input, Node·output, Node·attribute, Tensor·name, ValueInfo·name}
 use Rattle.rules.specs.Names.{Name, nameOf, nameIn, bodiesOf, bodiesIn}
-use Rattle.rules.specs.Runner.{Action, binds, reads, visits, unlessEmpty, initializers, nodeScript, waitingIn, script}
+use Rattle.rules.specs.Runner.{Action, binds, reads, visits, unlessEmpty, initializers, nodeScript, waitingIn, script, functionScript}
 
 -- ---- places
 
@@ -155,6 +156,9 @@ binds-unless x = go (x .bytes)
     go [] = tt
     go (b ∷ t) = ((λ p a. a), tt)
 
+binds-map : (named : Field → Name) (fs : List Field) → OnlyBinds (map (λ i. binds (named i)) fs)
+binds-map named fs = all-mapped Any (λ a. (p : ℕ) → At a p → ⊥) (λ i. binds (named i)) (λ i _ p a. a) fs (any-all fs)
+
 module _ (model : Bytes) where
   binds-initializers : (waiting : List Bytes) (fs : List Field) → OnlyBinds (initializers model waiting fs)
   unfolding initializers
@@ -172,7 +176,11 @@ module _ (model : Bytes) where
       go true ih = ih _
       go false ih = ((λ p a. a), ih waiting)
 
-  -- ---- the parts of a node and of a graph
+  -- ---- the parts of a node, of a graph and of a function
+
+  tidy-own : (f : Field) → f .place < f .start → f .start ≤ f .next → Tidy (Span f) (reads (nameIn model f) ∷ [])
+  unfolding nameIn
+  tidy-own f h k = tidy-one (Span f) (reads (nameIn model f)) (λ p e. let e′ : p ≡ f .place = e in (omega arith, omega arith))
 
   tidy-input : (f : Field) → f .place < f .start → f .start ≤ f .next → Tidy (Span f) (unlessEmpty reads (nameIn model f))
   unfolding unlessEmpty nameIn
@@ -180,7 +188,7 @@ module _ (model : Bytes) where
     where
       go : (t : Bytes) → Tidy (Span f) (elim t [ [] ↦ [] | b ∷ more ↦ reads (nameIn model f) ∷ [] ])
       go [] = tidy-nil (Span f)
-      go (b ∷ t) = tidy-one (Span f) (reads (nameIn model f)) (λ p e. let e′ : p ≡ f .place = e in (omega arith, omega arith))
+      go (b ∷ t) = tidy-own f h k
 
   pub bodies-ordered : (n : Field) → Ordered (n .start) (n .next) (bodiesIn model n)
   unfolding bodiesIn bodiesOf
@@ -221,7 +229,7 @@ module _ (model : Bytes) where
   parts-within n f p s = spans-within (f .start) (f .next) (allOf n (message model f)) (all-of-ordered model n f) p s
 
   -- parts of a message with two numbers
-  parts-apart : (n m : ℕ) (f : Field) → (n ≡ m → ⊥) → (p : ℕ) → Spans (allOf n (message model f)) p → Spans (allOf m (message model f)) p → ⊥
+  pub parts-apart : (n m : ℕ) (f : Field) → (n ≡ m → ⊥) → (p : ℕ) → Spans (allOf n (message model f)) p → Spans (allOf m (message model f)) p → ⊥
   unfolding allOf
   parts-apart n m f d p s t =
       spans-apart (λ g. eqb n (g .number)) (λ g. eqb m (g .number)) (λ g a b. d (eqb→eq n (g .number) a ∙ sym (eqb→eq m (g .number) b))) (f .start)
@@ -244,24 +252,34 @@ module _ (model : Bytes) where
       (all-flat Any (λ a. (p : ℕ) → At a p → ⊥) (λ o. unlessEmpty binds (nameIn model o)) (λ o _. binds-unless (nameIn model o)) (allOf Node·output m)
       (any-all (allOf Node·output m))))
 
+  -- a script that only binds, the nodes, and outputs that are each read inside their own field: a graph's, or a function's
+  tidy-body : (nodes outputs : ℕ) → (nodes ≡ outputs → ⊥) → (opening : List Action) → OnlyBinds opening → (out : Field → Action)
+      → ((o : Field) → o .place < o .start → o .start ≤ o .next → Tidy (Span o) (out o ∷ [])) → (f : Field)
+      → Tidy (Within f) (opening ++ flatMap (nodeScript model) (allOf nodes (message model f)) ++ map out (allOf outputs (message model f)))
+  tidy-body nodes outputs d opening b out one f =
+      let m = message model f in
+      tidy-append (Spans (allOf nodes m)) (Spans (allOf outputs m)) (Within f)
+      (opening ++ flatMap (nodeScript model) (allOf nodes m)) (map out (allOf outputs m))
+      (parts-apart nodes outputs f d) (parts-within nodes f) (parts-within outputs f)
+      (tidy-append Never (Spans (allOf nodes m)) (Spans (allOf nodes m)) opening (flatMap (nodeScript model) (allOf nodes m))
+      (λ p a b. a) (λ p a. absurd a) (λ p a. a) (tidy-binds opening b)
+      (tidy-flat (nodeScript model) tidy-node (f .start) (f .next) (allOf nodes m) (all-of-ordered model nodes f)))
+      (rw (map-flat out) (tidy-flat (λ o. out o ∷ []) one (f .start) (f .next) (allOf outputs m) (all-of-ordered model outputs f)))
+
   pub tidy-script : (main : Bool) (f : Field) → Tidy (Within f) (script model main f)
   unfolding script
   tidy-script main f =
       let g = message model f in
-      let waiting = waitingIn model main g in
-      let named : Field → Name = λ i. nameOf model ValueInfo·name (message model i) in
-      tidy-append (Spans (allOf Graph·node g)) (Spans (allOf Graph·output g)) (Within f)
-      (map (λ i. binds (named i)) (allOf Graph·input g) ++ initializers model waiting (allOf Graph·initializer g)
-      ++ flatMap (nodeScript model) (allOf Graph·node g)) (map (λ o. reads (named o)) (allOf Graph·output g))
-      (parts-apart Graph·node Graph·output f (λ e. omega arith)) (parts-within Graph·node f) (parts-within Graph·output f)
-      (tidy-append Never (Spans (allOf Graph·node g)) (Spans (allOf Graph·node g))
-      (map (λ i. binds (named i)) (allOf Graph·input g) ++ initializers model waiting (allOf Graph·initializer g))
-      (flatMap (nodeScript model) (allOf Graph·node g))
-      (λ p a b. a) (λ p a. absurd a) (λ p a. a)
-      (tidy-binds (map (λ i. binds (named i)) (allOf Graph·input g) ++ initializers model waiting (allOf Graph·initializer g))
-      (all-append (λ a. (p : ℕ) → At a p → ⊥) (map (λ i. binds (named i)) (allOf Graph·input g))
-      (initializers model waiting (allOf Graph·initializer g))
-      (all-mapped Any (λ a. (p : ℕ) → At a p → ⊥) (λ i. binds (named i)) (λ i _ p a. a) (allOf Graph·input g) (any-all (allOf Graph·input g)))
-      (binds-initializers waiting (allOf Graph·initializer g))))
-      (tidy-flat (nodeScript model) tidy-node (f .start) (f .next) (allOf Graph·node g) (all-of-ordered model Graph·node f)))
-      (rw (map-flat (λ o. reads (named o))) (tidy-flat (λ o. reads (named o) ∷ []) tidy-output (f .start) (f .next) (allOf Graph·output g) (all-of-ordered model Graph·output f)))
+      let inputs = map (λ i. binds (nameOf model ValueInfo·name (message model i))) (allOf Graph·input g) in
+      let values = initializers model (waitingIn model main g) (allOf Graph·initializer g) in
+      tidy-body Graph·node Graph·output (λ e. omega arith) (inputs ++ values)
+      (all-append (λ a. (p : ℕ) → At a p → ⊥) inputs values (binds-map (λ i. nameOf model ValueInfo·name (message model i)) (allOf Graph·input g))
+      (binds-initializers (waitingIn model main g) (allOf Graph·initializer g)))
+      (λ o. reads (nameOf model ValueInfo·name (message model o))) tidy-output f
+
+  pub tidy-function : (f : Field) → Tidy (Within f) (functionScript model f)
+  unfolding functionScript
+  tidy-function f =
+      let inputs = allOf Function·input (message model f) in
+      tidy-body Function·node Function·output (λ e. omega arith) (map (λ i. binds (nameIn model i)) inputs) (binds-map (nameIn model) inputs)
+      (λ o. reads (nameIn model o)) tidy-own f

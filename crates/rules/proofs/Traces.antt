@@ -1,5 +1,6 @@
 -- The reads of the run that enters every body once: no two are of one field, so the defining place is a function of the field.
-use Prim.Native.Nat.{ℕ, zero, suc}
+use Prim.Native.Nat.{ℕ, zero, suc, _<_}
+use native.Mathlib.Omega.{arith}
 use mathlib.Core.Path.{_≡_, refl, sym, ap, _∙_}
 use mathlib.Core.Logic.{_⊎_, inl, inr}
 use mathlib.Core.Bool.{Bool, true, false}
@@ -8,14 +9,17 @@ use mathlib.Core.Option.{Option, none, some}
 use lib.ListN.{length}
 use Rattle.varint.specs.Outcome.{pass, fail, _>>=_, each}
 use Rattle.wire.specs.declared.Field.{Field}
+use Rattle.varint.specs.Lists.{first}
 use Rattle.varint.specs.Bytes.{Bytes}
-use Rattle.wire.specs.Message.{firstOf, message, whole}
-use Rattle.schema.specs.Numbers.{Model·graph}
+use Rattle.wire.specs.Message.{allOf, firstOf, message, whole}
+use Rattle.wire.specs.Order.{Ordered}
+use Rattle.wire.proofs.Fields.{all-of-ordered}
+use Rattle.schema.specs.Numbers.{Model·graph, Model·functions}
 use Rattle.rules.specs.Names.{Name}
-use Rattle.rules.specs.Runner.{Action, binds, reads, visits, script, Read, binding, reading, Run, Ran, begin, find}
-use Rattle.rules.specs.Runner.{withBound, withRead, bind, read, unchosen, choose, forget, perform, runGraph, runTo, run}
+use Rattle.rules.specs.Runner.{Action, binds, reads, visits, script, functionScript, Read, binding, reading, Run, Ran, begin, find}
+use Rattle.rules.specs.Runner.{withBound, withRead, bind, read, unchosen, choose, forget, unbound, perform, runGraph, runFunction, runMain, runTo, run}
 use Rattle.rules.proofs.Visits.{visit-once}
-use Rattle.rules.proofs.Scripts.{Within, At, Reach, Scattered, Tidy, tidy-script}
+use Rattle.rules.proofs.Scripts.{Within, Span, Spans, spans-within, At, Reach, Scattered, Tidy, parts-apart, tidy-script, tidy-function}
 
 abbrev Never : ℕ → Type 0
 Never p = ⊥
@@ -123,18 +127,48 @@ module _ (model : Bytes) where
   keeps-graph (suc bound) main r f h =
       keeps-tidy (runGraph model bound false) (λ r f h. keeps-graph bound false r f h) (Within f) (script model main f) (tidy-script model main f) r h
 
-  -- of the run with no choices
-  pub functional : (e : Run) → run model [] ≡ pass e → Functional (e .trace)
-  unfolding run runTo begin
-  functional e h = go (firstOf Model·graph (message model (whole model))) h
+  keeps-function : (bound : ℕ) (r : Run) (f : Field) → f .place < f .start → Ready (Span f) r → Keeps (Span f) (r .trace) (runFunction model bound r f)
+  unfolding runFunction unbound
+  keeps-function bound r f l h =
+      let t = tidy-function model f in
+      keeps-tidy (runGraph model bound false) (λ r f h. keeps-graph bound false r f h) (Span f) (functionScript model f)
+      (t .0, λ p a. let i = t .1 p a in (omega arith, i .1)) (unbound r) h
+
+  -- functions lie apart, and so do their reads
+  keeps-functions : (bound lo hi : ℕ) (fs : List Field) → Ordered lo hi fs → (r : Run) → Ready (Spans fs) r
+      → Keeps (Spans fs) (r .trace) (each (runFunction model bound) r fs)
+  unfolding each
+  keeps-functions bound lo hi [] o r h = (h .0, h .1, λ x m. inl m)
+  keeps-functions bound lo hi (f ∷ fs) o r h =
+      keeps-bind (Span f) (Spans fs) (r .trace) (runFunction model bound r f) (λ s. each (runFunction model bound) s fs) (λ x m q. h .2 x m (inr q))
+      (λ p a b. let i = spans-within (f .next) hi fs (o .4) p b in omega arith)
+      (keeps-function bound r f (o .1) (h .0, h .1, λ x m q. h .2 x m (inl q))) (λ s k. keeps-functions bound (f .next) hi fs (o .4) s k)
+
+  -- the main graph is the first of the fields with its number
+  abbrev Main : ℕ → Type 0
+  Main = Spans (allOf Model·graph (message model (whole model)))
+
+  keeps-main : (bound : ℕ) → Keeps Main [] (runMain model bound [])
+  unfolding runMain firstOf first begin
+  keeps-main bound = go (allOf Model·graph (message model (whole model))) (all-of-ordered model Model·graph (whole model))
     where
       nothing : Functional []
       nothing x y m n q = absurd (List·Memᴰ·not-nil m)
 
-      kept : (Q : ℕ → Type 0) (o : Ran) → Keeps Q [] o → o ≡ pass e → Functional (e .trace)
-      kept Q o k q = (rw q at k) .1
+      go : (fs : List Field) → Ordered (whole model .start) (whole model .next) fs
+          → Keeps (Spans fs) [] (elim (first fs) [ none ↦ pass (begin []) | some g ↦ runGraph model bound true (begin []) g ])
+      go [] o = (refl, nothing, λ x m. inl m)
+      go (g ∷ fs) o =
+          keeps-weaken (Within g) (Spans (g ∷ fs)) [] (runGraph model bound true (begin []) g) (λ p i. inl (omega arith, i .1))
+          (keeps-graph bound true (begin []) g (refl, nothing, λ x m q. absurd (List·Memᴰ·not-nil m)))
 
-      go : (o : Option Field) → _≡_ {A = Ran} (elim o [ none ↦ pass (begin []) | some g ↦ runGraph model (length model) true (begin []) g ]) (pass e) → Functional (e .trace)
-      go none q = kept Never (pass (begin [])) (refl, nothing, λ x m. inl m) q
-      go (some g) q = kept (Within g) (runGraph model (length model) true (begin []) g)
-          (keeps-graph (length model) true (begin []) g (refl, nothing, λ x m q. absurd (List·Memᴰ·not-nil m))) q
+  -- of the run with no choices
+  pub functional : (e : Run) → run model [] ≡ pass e → Functional (e .trace)
+  unfolding run runTo
+  functional e h =
+      let functions = allOf Model·functions (message model (whole model)) in
+      let apart : (p : ℕ) → Main p → Spans functions p → ⊥ = parts-apart model Model·graph Model·functions (whole model) (λ e. omega arith) in
+      let kept = keeps-bind Main (Spans functions) [] (runMain model (length model) []) (λ r. each (runFunction model (length model)) r functions)
+      (λ x m q. absurd (List·Memᴰ·not-nil m)) apart (keeps-main (length model))
+      (λ s k. keeps-functions (length model) (whole model .start) (whole model .next) functions (all-of-ordered model Model·functions (whole model)) s k) in
+      (rw h at kept) .1

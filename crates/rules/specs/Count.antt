@@ -8,7 +8,8 @@ use Rattle.wire.specs.declared.Field.{Field}
 use Rattle.varint.specs.Lists.{isEmpty, keep}
 use Rattle.varint.specs.Bytes.{Bytes}
 use Rattle.wire.specs.Message.{Message, allOf, firstOf, text, bytesOf, message, whole}
-use Rattle.schema.specs.Numbers.{Model·graph, Graph·node, Graph·name, Graph·initializer, Graph·input, Graph·output, Node·input, Node·output, Node·name}
+use Rattle.schema.specs.Numbers.{Model·graph, Model·functions, Function·name, Function·input, Function·output, Function·attribute, Function·node}
+use Rattle.schema.specs.Numbers.{Function·attribute-proto, Graph·node, Graph·name, Graph·initializer, Graph·input, Graph·output, Node·input, Node·output, Node·name}
 use Rattle.schema.specs.Numbers.{Node·op-type, Node·attribute, Attribute·name, Tensor·name, ValueInfo·name, ValueInfo·type, TypeProto·tensor}
 use Rattle.schema.specs.Numbers.{TensorType·shape, Shape·dim, Dimension·dim-param}
 use Rattle.rules.specs.Identifier.{identifier}
@@ -22,10 +23,17 @@ module _ (model : Bytes) where
   nodesIn zero g = []
   nodesIn (suc bound) g = flatMap (λ n. n ∷ flatMap (λ b. nodesIn bound b) (bodiesIn model n)) (allOf Graph·node (message model g))
 
-  unfoldable pub nodesTo : (bound : ℕ) → ℕ
-  nodesTo bound = elim (firstOf Model·graph (message model (whole model))) [ none ↦ 0 | some g ↦ length (nodesIn bound g) ]
+  -- Those of a function.
+  unfoldable pub functionNodes : (bound : ℕ) → (function : Field) → List Field
+  functionNodes bound f = flatMap (λ n. n ∷ flatMap (λ b. nodesIn bound b) (bodiesIn model n)) (allOf Function·node (message model f))
 
-  -- "nodes in all graphs". A graph is longer than one inside it, so the length of the model is bound enough.
+  unfoldable pub mainNodes : (bound : ℕ) → List Field
+  mainNodes bound = elim (firstOf Model·graph (message model (whole model))) [ none ↦ [] | some g ↦ nodesIn bound g ]
+
+  unfoldable pub nodesTo : (bound : ℕ) → ℕ
+  nodesTo bound = length (mainNodes bound ++ flatMap (functionNodes bound) (allOf Model·functions (message model (whole model))))
+
+  -- "nodes in all graphs"; "Both counts include function bodies." A graph is longer than one inside it, so the length of the model is bound enough.
   unfoldable pub nodeCount : ℕ
   nodeCount = nodesTo (length model)
 
@@ -80,8 +88,23 @@ module _ (model : Bytes) where
   namesIn zero main g = []
   namesIn (suc bound) main g = graphNames (λ b. namesIn bound false b) main g
 
+  -- All names of a function; `inner` has those of the graphs within.
+  unfoldable pub functionNames : (inner : Field → List Bytes) → Field → List Bytes
+  functionNames inner f =
+      let m = message model f in
+      bytesOf model Function·name m
+      ∷ map (text model) (allOf Function·attribute m)
+      ++ map (λ a. bytesOf model Attribute·name (message model a)) (allOf Function·attribute-proto m)
+      ++ map (text model) (allOf Function·input m)
+      ++ flatMap (nodeNames inner) (allOf Function·node m)
+      ++ map (text model) (allOf Function·output m)
+
+  unfoldable pub mainNames : (bound : ℕ) → List Bytes
+  mainNames bound = elim (firstOf Model·graph (message model (whole model))) [ none ↦ [] | some g ↦ namesIn bound true g ]
+
   unfoldable pub oddTo : (bound : ℕ) → ℕ
-  oddTo bound = elim (firstOf Model·graph (message model (whole model))) [ none ↦ 0 | some g ↦ odds (namesIn bound true g) ]
+  oddTo bound =
+      odds (mainNames bound ++ flatMap (functionNames (λ b. namesIn bound false b)) (allOf Model·functions (message model (whole model))))
 
   unfoldable pub oddIn : ℕ
   oddIn = oddTo (length model)

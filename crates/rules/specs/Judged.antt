@@ -7,21 +7,15 @@ use mathlib.Core.List.{List, [], _∷_, _++_, map}
 use Rattle.varint.specs.Outcome.{pass, Judged, refused, refusedWith}
 use Rattle.varint.specs.Bytes.{Bytes}
 use Rattle.varint.specs.Notation.{hex, ascii}
-use Rattle.operators.specs.Samples.{L}
 use Rattle.schema.specs.Numbers.{Model·ir-version, Model·graph, Model·opset-import, OperatorSetId·domain, OperatorSetId·version, Graph·node}
 use Rattle.schema.specs.Numbers.{Graph·name, Graph·initializer, Graph·input, Graph·output, Graph·sparse-initializer, Node·input, Node·output, Node·name}
 use Rattle.schema.specs.Numbers.{Node·op-type, Node·attribute, Node·domain, Attribute·name, Tensor·name, ValueInfo·name, ValueInfo·type}
 use Rattle.schema.specs.Numbers.{TypeProto·tensor, TensorType·elem-type, TensorType·shape, Shape·dim, Dimension·dim-param}
-use Rattle.rules.specs.Models.{held, counted, value, tensor, body, node, graph, modelOf, model, Models·computes}
+use Rattle.rules.specs.Models.{held, counted, value, tensor, body, node, graph, import, named, op, out, modelOf, model, Models·computes}
+use Rattle.rules.specs.FunctionRows.{accepted, functionRows, FunctionRows·computes}
 use Rattle.rules.specs.Verdict.{Counts, verdict, Verdict·computes}
 
 -- ---- parts that are not as `Models` makes them
-
-named : Bytes
-named = held Graph·name (ascii "g")
-
-import : String → ℕ → Bytes
-import d v = held Model·opset-import (held OperatorSetId·domain (ascii d) ++ counted OperatorSetId·version v)
 
 input : String → Bytes → Bytes
 input x type = held Graph·input (held ValueInfo·name (ascii x) ++ type)
@@ -46,12 +40,6 @@ dim fields = shaped (held Shape·dim fields)
 noded : Bytes → Bytes
 noded fields = model (named ++ held Graph·node fields)
 
-op : Bytes
-op = held Node·op-type (ascii "F")
-
-out : Bytes
-out = held Node·output (ascii "y")
-
 -- An attribute of these fields after its name, and a node with one.
 attribute : Bytes → Bytes → Bytes
 attribute x fields = held Node·attribute (held Attribute·name x ++ fields)
@@ -62,9 +50,6 @@ attributed fields = noded (op ++ attribute (ascii "a") fields ++ out)
 -- A model of an IR version with an input `x` and a node that holds this graph.
 bodied : (ir-version : ℕ) → Bytes → Bytes
 bodied v g = modelOf v (graph "x" "" (node "" (body "do" g ∷ []) "y" ∷ []) "y")
-
-accepted : (nodes names odd : ℕ) → Judged Counts
-accepted nodes names odd = pass (record { nodes = nodes; names = names; odd = odd })
 
 -- A model, cells, and the answer.
 judged : List (Bytes × ℕ × Judged Counts)
@@ -79,7 +64,6 @@ judged =
     ∷ (counted Model·ir-version 8 ++ import "" 13 ++ import "ai.onnx" 13 ++ held Model·graph named, 0, refused 13 8)
     ∷ (counted Model·ir-version 8 ++ import "" 22 ++ import "" 13 ++ held Model·graph named, 0, refused 14 2)
     ∷ (counted Model·ir-version 8 ++ import "ai.onnx.ml" 13 ++ held Model·graph named, 0, refused 14 2)
-    ∷ (model named ++ hex "CA 01 00" ++ hex "CA 01 00", 0, refused 15 11)
     -- graph
     ∷ (model [], 0, refused 20 6)
     ∷ (model (held Graph·name []), 0, refused 20 8)
@@ -186,10 +170,9 @@ judged =
     ∷ (typed (dim (held Dimension·dim-param (hex "ED A0 80"))), 2, refused 21 26)
     -- the order of neighbouring rules: each model breaks both
     ∷ (counted Model·ir-version 8, 0, refused 11 0)
-    ∷ (counted Model·ir-version 8 ++ held Model·graph named ++ hex "CA 01 00", 0, refused 12 0)
+    ∷ (counted Model·ir-version 8 ++ held Model·graph [], 0, refused 12 0)
     ∷ (counted Model·ir-version 8 ++ import "" 13 ++ import "" 22 ++ held Model·graph named, 0, refused 13 8)
-    ∷ (counted Model·ir-version 8 ++ import "" 22 ++ held Model·graph named ++ hex "CA 01 00", 0, refused 14 2)
-    ∷ (model [] ++ hex "CA 01 00", 0, refused 15 8)
+    ∷ (counted Model·ir-version 8 ++ import "" 22 ++ held Model·graph [], 0, refused 14 2)
     ∷ (model (held Graph·sparse-initializer [] ++ held Graph·name []), 0, refused 20 10)
     ∷ (model (held Graph·sparse-initializer [] ++ held Graph·name (hex "FF")), 0, refused 21 10)
     ∷ (model (named ++ held Graph·input [] ++ held Graph·sparse-initializer []), 0, refused 16 13)
@@ -220,6 +203,10 @@ judged =
     ∷ (attributed (hex "32 00 A0 01 01"), 2, refused 32 16)
     ∷ []
 
-judged-hold : map (λ s. verdict (s .0) L (s .1)) judged ≡ map (λ s. s .2) judged
-unfolding judged named import input typed tensorType shaped minusOne dim noded op out attribute attributed bodied accepted L Models·computes Verdict·computes
+-- L, and the domain `m` from 1 to 5.
+listed : Bytes
+listed = hex "00 00 00 16 01 00 08 00 00 00 07 00 00 00 15 00 09 6D 00 00 00 01 00 00 00 05"
+
+judged-hold : map (λ s. verdict (s .0) listed (s .1)) (judged ++ functionRows) ≡ map (λ s. s .2) (judged ++ functionRows)
+unfolding listed FunctionRows·computes judged input typed tensorType shaped minusOne dim noded attribute attributed bodied Models·computes Verdict·computes
 judged-hold = refl

@@ -5,8 +5,11 @@ pub mod Names
 pub mod Walk
 pub mod Spelling
 pub mod Types
+pub mod Import
+pub mod Identity
 pub mod Node
 pub mod Graph
+pub mod Function
 pub mod Header
 pub mod Verdict
 pub mod Runner
@@ -15,5 +18,6 @@ pub mod Refusals
 pub mod Demands
 pub mod Models
 pub mod Samples
+pub mod FunctionRows
 pub mod Judged
 pub mod Runs

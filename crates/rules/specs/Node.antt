@@ -6,7 +6,7 @@ use mathlib.Core.Option.{none, some}
 use lib.Dec.{eqb}
 use Rattle.varint.specs.Outcome.{pass, _>>=_, _>>_, each, Judged, refuse_at:_when:_}
 use Rattle.wire.specs.declared.Field.{Field}
-use Rattle.varint.specs.Lists.{isEmpty, contains, lookup}
+use Rattle.varint.specs.Lists.{isEmpty, present, contains, lookup}
 use Rattle.varint.specs.Bytes.{Bytes, member}
 use Rattle.wire.specs.Message.{Message, allOf, numberOf, placeOf, text, bytesOf, message}
 use Rattle.operators.specs.Operators.{domain, Operators·computes}
@@ -55,6 +55,21 @@ badValue type a = elim (lookup type carriers) [
   | some mine ↦ foreign mine carriers a || (needed type && isEmpty (allOf mine a))
 ]
 
+-- "a ref_attr_name must be one of the function's attributes, otherwise 33"
+unfoldable pub unresolved : Context → (reference : Bytes) → Bool
+unresolved c reference = not (isEmpty reference) && not (member reference (c .attributes))
+
+-- "such an attribute has a type in 1..14 and no carrier, otherwise 32": each of the fourteen is another one than 0.
+unfoldable pub badReference : (type : ℕ) → Message → Bool
+badReference type a = not (present (lookup type carriers)) || foreign 0 carriers a
+
+-- 32, of an attribute that is a reference or holds its own value.
+unfoldable pub badAttribute : (reference : Bytes) → Message → Bool
+badAttribute reference a = elim (isEmpty reference) [
+  | true ↦ badValue (numberOf Attribute·type a) a
+  | false ↦ badReference (numberOf Attribute·type a) a
+]
+
 -- ---- names of a node
 
 module _ (model : Bytes) where
@@ -97,14 +112,15 @@ body nested w f = do
   pass (leaving w v)
 
 -- "Attribute: 22, 21, 31, 33, 32; then its graphs in order"
-unfoldable pub attribute : (model : Bytes) → (nested : GraphJudge) → Along → Field → Judged Along
-attribute model nested w f = do
+unfoldable pub attribute : (model : Bytes) → Context → (nested : GraphJudge) → Along → Field → Judged Along
+attribute model c nested w f = do
   let a = message model f
   let x = nameOf model Attribute·name a
+  let reference = bytesOf model Attribute·ref-attr-name a
   t ← naming 22 (w .walk) x
   refuse 31 at: x .place when: member (x .bytes) (w .earlier)
-  refuse 33 at: a .place when: not (isEmpty (bytesOf model Attribute·ref-attr-name a))
-  refuse 32 at: a .place when: badValue (numberOf Attribute·type a) a
+  refuse 33 at: a .place when: unresolved c reference
+  refuse 32 at: a .place when: badAttribute reference a
   v ← each (body nested) t (bodiesOf a)
   pass (record { walk = v; earlier = x .bytes ∷ w .earlier })
 
@@ -116,12 +132,12 @@ node model full c nested w f = do
   refuse 28 at: placeOf Node·domain m when: not (member (domain (bytesOf model Node·domain m)) (c .imports))
   n ← nodeName model (w .earlier) t m
   i ← each (nodeInput model) (n .walk) (allOf Node·input m)
-  a ← each (attribute model nested) (along i) (allOf Node·attribute m)
+  a ← each (attribute model c nested) (along i) (allOf Node·attribute m)
   refuse 34 at: m .place when: isEmpty (allOf Node·output m)
   v ← each (nodeOutput model full) (a .walk) (allOf Node·output m)
   pass (record { walk = withNode v; earlier = n .earlier })
 
 -- This file and what it is built on, for whoever computes with it.
 unfoldable pub Node·computes : Unit {0}
-unfolding Operators·computes Walk·computes carriers needed foreign badValue nodeName nodeInput nodeOutput body attribute node
+unfolding Operators·computes Walk·computes carriers needed foreign badValue unresolved badReference badAttribute nodeName nodeInput nodeOutput body attribute node
 Node·computes = tt

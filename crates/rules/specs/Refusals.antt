@@ -1,4 +1,5 @@
--- Document 01, "Refusal numbers": the table, in its order; 9 and 43 are of document 02, Req 07 and Req 06, and stand where they are tested.
+-- Document 01, "Refusal numbers": the table, in its order; 9, 41, 42 and 43 are of document 02, Req 07, Req 01 and Req 06, and
+-- stand where they are tested; 15, "functions present", is retired.
 use Prim.Native.Nat.{ℕ}
 use mathlib.Core.List.{List, [], _∷_}
 
@@ -18,7 +19,6 @@ refusals =
     ∷ 12  -- no opset_import
     ∷ 13  -- domain imported twice
     ∷ 14  -- version not within the list
-    ∷ 15  -- functions present
     ∷ 16  -- sparse_initializer present
     ∷ 20  -- graph name empty
     ∷ 21  -- not well-formed UTF-8, or an empty dim_param
@@ -40,4 +40,6 @@ refusals =
     ∷ 37  -- shape absent
     ∷ 38  -- dim_value negative
     ∷ 40  -- a new name, and visible names already equal the cells
+    ∷ 41  -- a function of this name and domain, and from IR 10 overload, stands before it
+    ∷ 42  -- a function has an attribute of this name already
     ∷ []

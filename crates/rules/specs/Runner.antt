@@ -1,4 +1,4 @@
--- Document 01, "The plain runner": it is fed the model bytes and a list of choices, binds and reads names, "and runs no judge". A
+-- Document 01, "The plain runner", and document 02, Req 01: it is fed the model bytes and a list of choices, binds and reads names, "and runs no judge". A
 -- graph is first taken for its script, the list of what it does, and a small machine performs the script. Plain runner, choice,
 -- body, visit and defining place are document 01's terms; script and action are ours.
 use Prim.Native.Nat.{ℕ, zero, suc, _+_, max}
@@ -12,7 +12,8 @@ use Rattle.wire.specs.declared.Field.{Field}
 use Rattle.varint.specs.Lists.{keep}
 use Rattle.varint.specs.Bytes.{Bytes, same, member}
 use Rattle.wire.specs.Message.{Message, allOf, firstOf, numberOf, message, whole}
-use Rattle.schema.specs.Numbers.{Model·ir-version, Model·graph, Graph·node, Graph·initializer, Graph·input, Graph·output, Node·input, Node·output, Tensor·name, ValueInfo·name}
+use Rattle.schema.specs.Numbers.{Model·ir-version, Model·graph, Model·functions, Function·input, Function·output, Function·node, Graph·node}
+use Rattle.schema.specs.Numbers.{Graph·initializer, Graph·input, Graph·output, Node·input, Node·output, Tensor·name, ValueInfo·name}
 use Rattle.rules.specs.Names.{Name, nameOf, nameIn, inputsOf, bodiesIn, Names·computes}
 
 -- ---- the script of a graph
@@ -59,6 +60,14 @@ module _ (model : Bytes) where
       ++ initializers (waitingIn main g) (allOf Graph·initializer g)
       ++ flatMap nodeScript (allOf Graph·node g)
       ++ map (λ o. reads (nameOf model ValueInfo·name (message model o))) (allOf Graph·output g)
+
+  -- "it binds the inputs one by one, runs the nodes and reads the outputs, as for a graph; calls are not unfolded"
+  unfoldable pub functionScript : Field → List Action
+  functionScript f =
+      let m = message model f in
+      map (λ i. binds (nameIn model i)) (allOf Function·input m)
+      ++ flatMap nodeScript (allOf Function·node m)
+      ++ map (λ o. reads (nameIn model o)) (allOf Function·output m)
 
 -- ---- the machine
 
@@ -123,6 +132,10 @@ choose r = record { choices = unchosen (r .choices); bound = r .bound; trace = r
 unfoldable pub forget : (before after : Run) → Run
 forget before after = record { choices = after .choices; bound = before .bound; trace = after .trace; most = after .most }
 
+-- "from no bound names"
+unfoldable pub unbound : Run → Run
+unbound r = record { choices = r .choices; bound = []; trace = r .trace; most = r .most }
+
 -- "running each as often as chosen from the names bound there"
 unfoldable pub times : (count : ℕ) → (Run → Ran) → Run → Ran
 times zero once r = pass r
@@ -140,11 +153,21 @@ module _ (model : Bytes) where
   runGraph zero main r f = pass r
   runGraph (suc bound) main r f = each (perform (λ s g. runGraph bound false s g)) r (script model main f)
 
-  unfoldable pub runTo : (bound : ℕ) → (choices : List ℕ) → Ran
-  runTo bound choices = elim (firstOf Model·graph (message model (whole model))) [
+  -- A function by itself; the graphs inside it to `bound` depths.
+  unfoldable pub runFunction : (bound : ℕ) → Run → Field → Ran
+  runFunction bound r f = each (perform (λ s g. runGraph bound false s g)) (unbound r) (functionScript model f)
+
+  unfoldable pub runMain : (bound : ℕ) → (choices : List ℕ) → Ran
+  runMain bound choices = elim (firstOf Model·graph (message model (whole model))) [
     | none ↦ pass (begin choices)
     | some g ↦ runGraph bound true (begin choices) g
   ]
+
+  -- "after the main graph the runner runs each body alone, in list order": with what is left of the choices.
+  unfoldable pub runTo : (bound : ℕ) → (choices : List ℕ) → Ran
+  runTo bound choices = do
+    r ← runMain bound choices
+    each (runFunction bound) r (allOf Model·functions (message model (whole model)))
 
   -- A graph is longer than one inside it, so the length of the model is bound enough.
   unfoldable pub run : (choices : List ℕ) → Ran
@@ -152,5 +175,5 @@ module _ (model : Bytes) where
 
 -- This file and what it is built on, for whoever computes with it.
 unfoldable pub Runner·computes : Unit {0}
-unfolding Names·computes unlessEmpty initializers nodeScript waitingIn script begin find withBound withRead bind read chosen unchosen choose forget times perform runGraph runTo run
+unfolding Names·computes unlessEmpty initializers nodeScript waitingIn script functionScript begin find withBound withRead bind read chosen unchosen choose forget unbound times perform runGraph runFunction runMain runTo run
 Runner·computes = tt

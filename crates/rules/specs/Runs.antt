@@ -6,7 +6,7 @@ use mathlib.Core.List.{List, [], _∷_, _++_, map, reverse}
 use Rattle.varint.specs.Outcome.{Outcome, pass, fail}
 use Rattle.varint.specs.Bytes.{Bytes}
 use Rattle.schema.specs.Numbers.{Model·ir-version, Model·graph}
-use Rattle.rules.specs.Models.{held, counted, body, node, graph, modelOf, model, Models·computes}
+use Rattle.rules.specs.Models.{held, counted, body, node, call, graph, named, modelOf, model, imported, function, Models·computes}
 use Rattle.rules.specs.Runner.{Stop, binding, reading, Ran, run, Runner·computes}
 
 -- The reads of a run in the order in which they were made, each as the place of the field and the place that it found.
@@ -48,6 +48,15 @@ self-reader = graph "x" "" (node "" (body "do" (graph "" "" (node "y" [] "t" ∷
 defaulting : String → Bytes
 defaulting initializers = graph "x" "" (node "" (body "do" (graph "i" initializers [] "i") ∷ []) "y" ∷ []) "y"
 
+-- ---- functions
+
+-- One with a node, and one whose node has a body.
+one-node : Bytes
+one-node = function "f" imported "x" (call "x" [] "y" ∷ []) "y"
+
+with-body : Bytes
+with-body = function "f" imported "x" (call "" (body "do" (graph "" "" (node "x" [] "t" ∷ []) "t") ∷ []) "y" ∷ []) "y"
+
 -- A model, choices, and what is told of the run.
 runs : List (Bytes × List ℕ × Outcome Stop (List (ℕ × ℕ)))
 runs =
@@ -80,8 +89,19 @@ runs =
     -- the same output listed twice; a left-out input and a left-out output
     ∷ (model (graph "x" "" (node "x" [] "y" ∷ []) "y y"), [], pass ((26, 13) ∷ (37, 32) ∷ (50, 32) ∷ []))
     ∷ (model (graph "x" "" (node " x" [] " y" ∷ []) "y"), [], pass ((28, 13) ∷ (41, 36) ∷ []))
+    -- functions after the main graph, each from no bound names; without a graph too
+    ∷ (model straight ++ one-node, [], pass ((26, 13) ∷ (37, 13) ∷ (40, 32) ∷ (51, 46) ∷ (77, 72) ∷ (86, 83) ∷ []))
+    ∷ (model named ++ one-node ++ one-node, [], pass ((26, 21) ∷ (35, 32) ∷ (53, 48) ∷ (62, 59) ∷ []))
+    ∷ (counted Model·ir-version 8 ++ one-node, [], pass ((17, 12) ∷ (26, 23) ∷ []))
+    -- what is left of the choices: the main graph's body not at all, the function's twice; and 1 when none is left
+    ∷ (model one-body ++ with-body, 0 ∷ 2 ∷ [], pass ((72, 67) ∷ (114, 93) ∷ (125, 120) ∷ (114, 93) ∷ (125, 120) ∷ (142, 139) ∷ []))
+    ∷ (model one-body ++ with-body, 0 ∷ [], pass ((72, 67) ∷ (114, 93) ∷ (125, 120) ∷ (142, 139) ∷ []))
+    -- a body reads a name of the main graph, one of another function, and binds its own input
+    ∷ (model (graph "x" "" [] "x") ++ function "f" imported "" (call "x" [] "y" ∷ []) "y", [], fail (reading 49))
+    ∷ (model named ++ one-node ++ function "g" imported "" (call "y" [] "z" ∷ []) "z", [], fail (reading 50))
+    ∷ (model named ++ function "f" imported "x" (call "x" [] "x" ∷ []) "x", [], fail (binding 32 21))
     ∷ []
 
 runs-hold : map (λ s. told (run (s .0) (s .1))) runs ≡ map (λ s. s .2) runs
-unfolding told runs straight two-bodies one-body inner outer nested shadow self-reader defaulting Models·computes Runner·computes
+unfolding told runs straight two-bodies one-body inner outer nested shadow self-reader defaulting one-node with-body Models·computes Runner·computes
 runs-hold = refl

@@ -11,15 +11,17 @@ use Rattle.rules.specs.Identifier.{identifier, Identifier·computes}
 use Rattle.rules.specs.Utf8.{wellFormed, Utf8·computes}
 use Rattle.rules.specs.Names.{Name, Names·computes}
 
--- What surrounds a graph: the domains that its model imports, whether it is the main graph, and its model's IR version.
+-- What surrounds a graph or the body of a function: the domains that its model or its function imports, whether it is the main graph, its model's IR
+-- version, and the attributes that a reference may name: those of the function around it, and outside functions none.
 pub record Context : Type 0 where
   pub imports : List Bytes
   pub main : Bool
   pub ir-version : ℕ
+  pub attributes : List Bytes
 
 -- A graph inside this one.
 unfoldable pub nestedIn : Context → Context
-nestedIn c = record { imports = c .imports; main = false; ir-version = c .ir-version }
+nestedIn c = record { imports = c .imports; main = false; ir-version = c .ir-version; attributes = c .attributes }
 
 -- What is visible, the newest first; the nodes so far; the most names visible together so far; and how many names that were tested for 21
 -- so far are not identifiers.
@@ -56,6 +58,10 @@ withTested w x = record { scope = w .scope; nodes = w .nodes; most = w .most; od
 -- "Their names vanish when the graph ends": the walk `after` a nested graph, where it was `before`.
 unfoldable pub leaving : (before after : Walk) → Walk
 leaving before after = record { scope = before .scope; nodes = after .nodes; most = after .most; odd = after .odd }
+
+-- "its body starts with only its inputs visible": no name is, at first.
+unfoldable pub afresh : Walk → Walk
+afresh w = leaving start w
 
 -- A walk along initializers, nodes or attributes, and the names of those that stood earlier in the list.
 pub record Along : Type 0 where
@@ -96,6 +102,6 @@ define full w x = do
 
 -- This file and what it is built on, for whoever computes with it.
 unfoldable pub Walk·computes : Unit {0}
-unfolding Identifier·computes Utf8·computes Names·computes nestedIn inMain start withName withNode oddity withTested leaving along visible
+unfolding Identifier·computes Utf8·computes Names·computes nestedIn inMain start withName withNode oddity withTested leaving afresh along visible
     definedAt tested naming define
 Walk·computes = tt

@@ -16,7 +16,7 @@ use Rattle.varint.proofs.Lists.{T-true, T-false}
 use Rattle.varint.proofs.Tells.{Tells}
 use Rattle.wire.proofs.Reading.{AtTag, Follows, tag-tells, value-tells}
 use Rattle.schema.specs.declared.Kind.{Kind}
-use Rattle.schema.specs.Rows.{rowOf, isGraph}
+use Rattle.schema.specs.Rows.{rowOf, hasNodes}
 use Rattle.schema.specs.FirstWalk.{slotOf, take-up, kindOf, deeper, contents, turn, walk, walked}
 
 -- two continuations that agree on what a reading tells
@@ -36,7 +36,7 @@ module _ (model : Bytes) (inner inner′ : Kind → (depth end pos : ℕ) → Ru
   contents-agree : (depth : ℕ) (o : Option Kind) (f : Field) → pos < f .start → f .next ≤ end → contents model inner depth o f ≡ contents model inner′ depth o f
   unfolding contents
   contents-agree depth none f h l = refl
-  contents-agree depth (some k) f h l = seq-agrees (refuse 6 at: f .place when: (isGraph k && eqb depth 8)) _ _ (within k (deeper k depth) (f .next) (f .start) l h)
+  contents-agree depth (some k) f h l = seq-agrees (refuse 6 at: f .place when: (hasNodes k && eqb depth 8)) _ _ (within k (deeper k depth) (f .next) (f .start) l h)
 
   turn-agrees : (kind : Kind) (depth : ℕ) (slots : List ℕ) → turn model inner rest kind depth slots end pos ≡ turn model inner′ rest′ kind depth slots end pos
   unfolding turn

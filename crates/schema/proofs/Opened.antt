@@ -21,9 +21,9 @@ use Rattle.varint.proofs.Passing.{passed-bind, passed-seq, passed-rule, passed-
 use Rattle.wire.proofs.Reading.{Fits, AtTag, Follows, tag-tells, value-tells, field-tells, field-placed}
 use Rattle.wire.proofs.Fields.{fields-ordered, ordered-all}
 use Rattle.schema.specs.declared.Kind.{Kind}
-use Rattle.schema.specs.declared.Kind.the-variants.{Model, Graph, Node, Attribute, Tensor, ValueInfo}
-use Rattle.schema.specs.Numbers.{Model·graph, Graph·node, Graph·initializer, Graph·input, Node·attribute, Attribute·g, Attribute·graphs}
-use Rattle.schema.specs.Rows.{rowOf, isGraph, Rows·computes}
+use Rattle.schema.specs.declared.Kind.the-variants.{Model, Function, Graph, Node, Attribute, Tensor, ValueInfo}
+use Rattle.schema.specs.Numbers.{Model·graph, Model·functions, Function·node, Graph·node, Graph·initializer, Graph·input, Node·attribute, Attribute·g, Attribute·graphs}
+use Rattle.schema.specs.Rows.{rowOf, hasNodes, Rows·computes}
 use Rattle.schema.specs.FirstWalk.{fits, slotOf, taken, take-up, kindOf, deeper, contents, turn, walk, walked, firstWalk}
 use Rattle.schema.specs.Opened.{Opened, innermost, Walked}
 use Rattle.schema.proofs.Bound.{walk-bound}
@@ -31,7 +31,7 @@ use Rattle.schema.proofs.Bound.{walk-bound}
 module _ (model : Bytes) where
   -- a field has the wire type of its row, and opens no message, or one that is sound at its depth
   abbrev pub Sound : (depth : ℕ) → Field → Kind → Type 0
-  Sound depth f k = T (not (isGraph k && eqb depth 8)) × (walked model k (deeper k depth) [] (f .next) (f .start) ≡ pass tt)
+  Sound depth f k = T (not (hasNodes k && eqb depth 8)) × (walked model k (deeper k depth) [] (f .next) (f .start) ≡ pass tt)
 
   abbrev pub Opens : Kind → (depth : ℕ) → Field → Type 0
   Opens kind depth f = T (fits (f .wire) (rowOf kind (f .number))) × If (Sound depth f) (kindOf (rowOf kind (f .number)))
@@ -42,8 +42,8 @@ module _ (model : Bytes) where
   unfolding contents
   contents-passed n depth none f h e = tt
   contents-passed n depth (some k) f h e =
-      let p = passed-seq (refuse 6 at: f .place when: (isGraph k && eqb depth 8)) (walk model n k (deeper k depth) [] (f .next) (f .start)) tt e in
-      (passed-rule 6 (f .place) (isGraph k && eqb depth 8) (p .0), sym (walk-bound model n k (deeper k depth) [] (f .next) (f .start) h) ∙ p .1)
+      let p = passed-seq (refuse 6 at: f .place when: (hasNodes k && eqb depth 8)) (walk model n k (deeper k depth) [] (f .next) (f .start)) tt e in
+      (passed-rule 6 (f .place) (hasNodes k && eqb depth 8) (p .0), sym (walk-bound model n k (deeper k depth) [] (f .next) (f .start) h) ∙ p .1)
 
   field-of : (end pos : ℕ) (t : Tag) (f : Field) → tag model end pos ≡ pass t → value model t end ≡ pass f → field model end pos ≡ pass f
   unfolding field _>>=_
@@ -176,11 +176,19 @@ pub walked-whole : (model : Bytes) → firstWalk model ≡ pass tt → Walked mo
 unfolding firstWalk whole
 walked-whole model e = record { inside = omega arith; passed = (0, e) }
 
--- ---- rows that open the messages of a graph
+-- ---- rows that open the messages of a graph or a function
 
 pub model-graph : kindOf (rowOf Model Model·graph) ≡ some Graph
 unfolding kindOf Rows·computes
 model-graph = refl
+
+pub model-functions : kindOf (rowOf Model Model·functions) ≡ some Function
+unfolding kindOf Rows·computes
+model-functions = refl
+
+pub function-node : kindOf (rowOf Function Function·node) ≡ some Node
+unfolding kindOf Rows·computes
+function-node = refl
 
 pub graph-input : kindOf (rowOf Graph Graph·input) ≡ some ValueInfo
 unfolding kindOf Rows·computes

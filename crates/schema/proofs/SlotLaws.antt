@@ -13,7 +13,7 @@ use borrow.Author.Tests.{lt-ltb, eqb-true, eqb-false}
 use Rattle.varint.specs.Lists.{contains}
 use Rattle.varint.proofs.Lists.{true-T}
 use Rattle.schema.specs.declared.Kind.{Kind}
-use Rattle.schema.specs.declared.Kind.the-variants.{Model, OperatorSetId, Graph, Node, Attribute, Tensor, ValueInfo, TypeProto, TensorType, Shape, Dimension}
+use Rattle.schema.specs.declared.Kind.the-variants.{Model, OperatorSetId, Function, Graph, Node, Attribute, Tensor, ValueInfo, TypeProto, TensorType, Shape, Dimension}
 use Rattle.schema.specs.declared.Row.{Row}
 use Rattle.schema.specs.declared.Row.the-variants.{Once, Many, Packable, OneOf, Unknown}
 use Rattle.schema.specs.Rows.{rows, rowIn, rowOf}
@@ -59,6 +59,7 @@ low-slot k n = low-in n (rows k) (below k)
     below : (k : Kind) → T (allBelow (rows k))
     below Model = tt
     below OperatorSetId = tt
+    below Function = tt
     below Graph = tt
     below Node = tt
     below Attribute = tt

@@ -29,7 +29,7 @@ use Rattle.schema.specs.declared.Content.{Content}
 use Rattle.schema.specs.declared.Content.the-variants as content
 use Rattle.schema.specs.declared.WalkAnswer.{WalkAnswer}
 use Rattle.schema.specs.declared.WalkAnswer.the-variants as walk-answer
-use Rattle.schema.specs.Rows.{rowOf, isGraph}
+use Rattle.schema.specs.Rows.{rowOf, hasNodes}
 use Rattle.schema.specs.FirstWalk.{fits, slotOf, taken, take-up, kindOf, deeper, contents, turn, walked}
 use Rattle.schema.specs.Answers.{walkSays, contentSays, silent, slotIndex, takenIn}
 use Rattle.schema.proofs.SlotLaws.{low-slot, Slots, slots-none, slots-taken, slots-more}
@@ -208,7 +208,7 @@ module _ {s : Bytes} {kind : Kind} {depth start end : ℕ} {seen : List ℕ} {c 
       unfolding inner contents contentSays
       walk-closed q = goes (rw (kinded ∙ ap contentSays q, inner) refl)
 
-      module _ {k : Kind} (q : x ≡ content.Message k) {b : Bool} (deep : b ≡ (isGraph k && eqb depth 8)) where
+      module _ {k : Kind} (q : x ≡ content.Message k) {b : Bool} (deep : b ≡ (hasNodes k && eqb depth 8)) where
         pub walk-deep : b ≡ true → refused 6 (c .at) ≡ walked s kind depth [] end start
         unfolding inner contents contentSays _>>_ refuse_at:_when:_
         walk-deep t = ap (λ (p : ℕ). refused 6 p) (sym (u .placed)) ∙ stops _ (rw (kinded ∙ ap contentSays q, inner) (rw (sym deep ∙ t) refl))
@@ -227,9 +227,9 @@ module _ {s : Bytes} {kind : Kind} {depth start end : ℕ} {seen : List ℕ} {c 
           walk-bad v = ap walkSays v ∙ stops _ (inner-is ∙ ap walkSays v)
 
 -- what is opened and not too deep is at most at depth 8
-pub deeper-low : (k : Kind) {depth d : ℕ} {b : Bool} → depth ≤ 8 → b ≡ (isGraph k && eqb depth 8) → b ≡ false → d ≡ deeper k depth → d ≤ 8
+pub deeper-low : (k : Kind) {depth d : ℕ} {b : Bool} → depth ≤ 8 → b ≡ (hasNodes k && eqb depth 8) → b ≡ false → d ≡ deeper k depth → d ≤ 8
 unfolding deeper
-deeper-low k {depth} {d} {b} l e f m = go (isGraph k) (sym e ∙ f) m
+deeper-low k {depth} {d} {b} l e f m = go (hasNodes k) (sym e ∙ f) m
   where
     go : (g : Bool) → (g && eqb depth 8) ≡ false → d ≡ elim g as (λ _. ℕ) [ true ↦ depth + 1 | false ↦ depth ] → d ≤ 8
     go true q n = let x = eqb-false depth 8 q in omega arith

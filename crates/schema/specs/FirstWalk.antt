@@ -17,7 +17,7 @@ use Rattle.schema.specs.declared.Holds.{Holds}
 use Rattle.schema.specs.declared.Holds.the-variants as holds
 use Rattle.schema.specs.declared.Row.{Row}
 use Rattle.schema.specs.declared.Row.the-variants.{Once, Many, Packable, OneOf, Unknown}
-use Rattle.schema.specs.Rows.{rowOf, holdsOf, opened, isGraph, Rows·computes}
+use Rattle.schema.specs.Rows.{rowOf, holdsOf, opened, hasNodes, Rows·computes}
 
 -- ---- what a row asks of a field; of a field that no row names nothing is asked, and nothing of it is opened
 
@@ -55,9 +55,9 @@ take-up (some k) slots = k ∷ slots
 unfoldable pub kindOf : Row → Option Kind
 kindOf r = elim (holdsOf r) [ none ↦ none | some h ↦ opened h ]
 
--- The graph depth inside a message that stands at `depth`, "the main graph being depth 1".
+-- The graph depth inside a message that stands at `depth`, "the main graph being depth 1" and "A function is at depth 1".
 unfoldable pub deeper : Kind → ℕ → ℕ
-deeper k depth = elim (isGraph k) [ true ↦ depth + 1 | false ↦ depth ]
+deeper k depth = elim (hasNodes k) [ true ↦ depth + 1 | false ↦ depth ]
 
 -- ---- the walk
 
@@ -66,7 +66,7 @@ module _ (model : Bytes) where
   unfoldable pub contents : (inner : Kind → (depth end pos : ℕ) → Rule) → (depth : ℕ) → Option Kind → Field → Rule
   contents inner depth none f = pass tt
   contents inner depth (some k) f = do
-    refuse 6 at: f .place when: (isGraph k && eqb depth 8)
+    refuse 6 at: f .place when: (hasNodes k && eqb depth 8)
     inner k (deeper k depth) (f .next) (f .start)
 
   -- "For each field, in this order: the tag; its wire kind; whether it is a repeat; its value or length; graph depth;

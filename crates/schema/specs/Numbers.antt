@@ -6,7 +6,7 @@ use mathlib.Core.Bool.{true, false}
 use mathlib.Core.List.{List, [], _∷_, map}
 use lib.Dec.{eqb}
 use Rattle.schema.specs.declared.Kind.{Kind}
-use Rattle.schema.specs.declared.Kind.the-variants.{Model, OperatorSetId, Graph, Node, Attribute, Tensor, ValueInfo, TypeProto, TensorType, Shape, Dimension}
+use Rattle.schema.specs.declared.Kind.the-variants.{Model, OperatorSetId, Function, Graph, Node, Attribute, Tensor, ValueInfo, TypeProto, TensorType, Shape, Dimension}
 use Rattle.schema.specs.declared.Row.{Row}
 use Rattle.schema.specs.Rows.{rows}
 
@@ -27,6 +27,33 @@ OperatorSetId·domain = 1
 
 abbrev pub OperatorSetId·version : ℕ
 OperatorSetId·version = 2
+
+abbrev pub Function·name : ℕ
+Function·name = 1
+
+abbrev pub Function·input : ℕ
+Function·input = 4
+
+abbrev pub Function·output : ℕ
+Function·output = 5
+
+abbrev pub Function·attribute : ℕ
+Function·attribute = 6
+
+abbrev pub Function·node : ℕ
+Function·node = 7
+
+abbrev pub Function·opset-import : ℕ
+Function·opset-import = 9
+
+abbrev pub Function·domain : ℕ
+Function·domain = 10
+
+abbrev pub Function·attribute-proto : ℕ
+Function·attribute-proto = 11
+
+abbrev pub Function·overload : ℕ
+Function·overload = 13
 
 abbrev pub Graph·node : ℕ
 Graph·node = 1
@@ -122,6 +149,15 @@ numbers =
     ∷ (Model, Model·functions, "functions")
     ∷ (OperatorSetId, OperatorSetId·domain, "domain")
     ∷ (OperatorSetId, OperatorSetId·version, "version")
+    ∷ (Function, Function·name, "name")
+    ∷ (Function, Function·input, "input")
+    ∷ (Function, Function·output, "output")
+    ∷ (Function, Function·attribute, "attribute")
+    ∷ (Function, Function·node, "node")
+    ∷ (Function, Function·opset-import, "opset_import")
+    ∷ (Function, Function·domain, "domain")
+    ∷ (Function, Function·attribute-proto, "attribute_proto")
+    ∷ (Function, Function·overload, "overload")
     ∷ (Graph, Graph·node, "node")
     ∷ (Graph, Graph·name, "name")
     ∷ (Graph, Graph·initializer, "initializer")

@@ -8,7 +8,7 @@ use mathlib.Core.List.{List, [], _∷_, map}
 use lib.ListN.{getD}
 use lib.Dec.{ltb}
 use Rattle.schema.specs.declared.Kind.{Kind}
-use Rattle.schema.specs.declared.Kind.the-variants.{Model, OperatorSetId, Graph, Node, Attribute, Tensor, ValueInfo, TypeProto, TensorType, Shape, Dimension}
+use Rattle.schema.specs.declared.Kind.the-variants.{Model, OperatorSetId, Function, Graph, Node, Attribute, Tensor, ValueInfo, TypeProto, TensorType, Shape, Dimension}
 use Rattle.schema.specs.declared.Holds.{Holds}
 use Rattle.schema.specs.declared.Holds.the-variants.{Varint, Bytes, Four, Message}
 use Rattle.schema.specs.declared.Row.{Row}
@@ -55,11 +55,15 @@ opening (e ∷ more) = elim (e .2) [ Once h ↦ "" | Many h ↦ "" | Packable h 
 line : Kind → String
 line k = opening (rows k) ++ joined (map shown (rows k))
 
--- Document 01's table, with "4, 5, 7, 8, 9 s" written out, and " packed" after what may also come packed: that is a sentence below it.
+-- Document 01's table with the row that document 02 changed and the one that it added, "4, 5, 7, 8, 9 s" written out, and " packed" after what may also come packed: that is a sentence below it.
 page : List (Kind × String)
 page =
-    (Model, "1 ir_version v, 7 graph m, 8 opset_import m*, 25 functions s*")
+    (Model, "1 ir_version v, 7 graph m, 8 opset_import m*, 25 functions m*")
     ∷ (OperatorSetId, "1 domain s, 2 version v")
+    ∷ (
+      Function,
+      "1 name s, 4 input s*, 5 output s*, 6 attribute s*, 7 node m*, 9 opset_import m*, 10 domain s, 11 attribute_proto m*, 13 overload s",
+    )
     ∷ (Graph, "1 node m*, 2 name s, 5 initializer m*, 11 input m*, 12 output m*, 13 value_info m*, 15 sparse_initializer s*")
     ∷ (Node, "1 input s*, 2 output s*, 3 name s, 4 op_type s, 5 attribute m*, 7 domain s")
     ∷ (

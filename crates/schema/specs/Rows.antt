@@ -7,23 +7,35 @@ use mathlib.Core.List.{List, [], _∷_}
 use mathlib.Core.Option.{Option, none, some}
 use lib.Dec.{eqb}
 use Rattle.schema.specs.declared.Kind.{Kind}
-use Rattle.schema.specs.declared.Kind.the-variants.{Model, OperatorSetId, Graph, Node, Attribute, Tensor, ValueInfo, TypeProto, TensorType, Shape, Dimension}
+use Rattle.schema.specs.declared.Kind.the-variants.{Model, OperatorSetId, Function, Graph, Node, Attribute, Tensor, ValueInfo, TypeProto, TensorType, Shape, Dimension}
 use Rattle.schema.specs.declared.Holds.{Holds}
 use Rattle.schema.specs.declared.Holds.the-variants.{Varint, Bytes, Four, Message}
 use Rattle.schema.specs.declared.Row.{Row}
 use Rattle.schema.specs.declared.Row.the-variants.{Once, Many, Packable, OneOf, Unknown}
 
--- Kind, Holds and Row are the enums of the code. The document's "Type" and "Type.Tensor" are TypeProto and TensorType here.
+-- Kind, Holds and Row are the enums of the code. The document's "Type" and "Type.Tensor" are TypeProto and TensorType here, and document 02's
+-- "FunctionProto" is Function: "Open Model field 25".
 unfoldable pub rows : Kind → List (ℕ × String × Row)
 rows Model =
     (1, "ir_version", Once Varint)
     ∷ (7, "graph", Once (Message Graph))
     ∷ (8, "opset_import", Many (Message OperatorSetId))
-    ∷ (25, "functions", Many Bytes)
+    ∷ (25, "functions", Many (Message Function))
     ∷ []
 rows OperatorSetId =
     (1, "domain", Once Bytes)
     ∷ (2, "version", Once Varint)
+    ∷ []
+rows Function =
+    (1, "name", Once Bytes)
+    ∷ (4, "input", Many Bytes)
+    ∷ (5, "output", Many Bytes)
+    ∷ (6, "attribute", Many Bytes)
+    ∷ (7, "node", Many (Message Node))
+    ∷ (9, "opset_import", Many (Message OperatorSetId))
+    ∷ (10, "domain", Once Bytes)
+    ∷ (11, "attribute_proto", Many (Message Attribute))
+    ∷ (13, "overload", Once Bytes)
     ∷ []
 rows Graph =
     (1, "node", Many (Message Node))
@@ -110,20 +122,22 @@ opened Bytes = none
 opened Four = none
 opened (Message k) = some k
 
-unfoldable pub isGraph : Kind → Bool
-isGraph Model = false
-isGraph OperatorSetId = false
-isGraph Graph = true
-isGraph Node = false
-isGraph Attribute = false
-isGraph Tensor = false
-isGraph ValueInfo = false
-isGraph TypeProto = false
-isGraph TensorType = false
-isGraph Shape = false
-isGraph Dimension = false
+-- A graph, or a function: document 02, "A function is at depth 1".
+unfoldable pub hasNodes : Kind → Bool
+hasNodes Model = false
+hasNodes OperatorSetId = false
+hasNodes Function = true
+hasNodes Graph = true
+hasNodes Node = false
+hasNodes Attribute = false
+hasNodes Tensor = false
+hasNodes ValueInfo = false
+hasNodes TypeProto = false
+hasNodes TensorType = false
+hasNodes Shape = false
+hasNodes Dimension = false
 
 -- All of this file, for whoever computes with it.
 unfoldable pub Rows·computes : Unit {0}
-unfolding rows rowIn rowOf holdsOf opened isGraph
+unfolding rows rowIn rowOf holdsOf opened hasNodes
 Rows·computes = tt

@@ -21,6 +21,16 @@ inside : (way : Bytes) → Bytes → Bytes
 inside [] m = m
 inside (t ∷ way) m = let inner = inside way m in t ∷ length inner ∷ inner
 
+-- A function with these fields, and one with a graph that has `n` more inside it: under a node, and as a default.
+function : Bytes → Bytes
+function fields = 0xCA ∷ 0x01 ∷ length fields ∷ fields
+
+called : ℕ → Bytes
+called n = function (inside (hex "3A 2A 32") (nested n))
+
+default : ℕ → Bytes
+default n = function (inside (hex "5A 32") (nested n))
+
 walks : List (Bytes × Rule)
 walks =
     ([], pass tt)
@@ -44,6 +54,21 @@ walks =
     ∷ (hex "3A 0E 5A 0C 12 0A 0A 08 12 06 0A 04 08 01 12 00", refused 5 14)  -- and of Dimension's
     ∷ (graphs 7, pass tt)  -- depth 8
     ∷ (graphs 8, refused 6 48)
+    ∷ (function (hex "0A 00 0A 00"), refused 5 5)  -- a function's name, domain and overload, each alone
+    ∷ (function (hex "52 00 52 00"), refused 5 5)
+    ∷ (function (hex "6A 00 6A 00"), refused 5 5)
+    ∷ (function (hex "22 00 2A 00 32 00 3A 00 4A 00 5A 00 22 00 2A 00 32 00 3A 00 4A 00 5A 00"), pass tt)  -- and lists
+    ∷ (function (hex "08 00"), refused 4 3)
+    ∷ (function (hex "20 00"), refused 4 3)
+    ∷ (function (hex "38 00"), refused 4 3)
+    ∷ (function (hex "4A 01 10"), refused 1 5)  -- an import, a node and a default are opened
+    ∷ (function (hex "3A 02 22 01"), refused 1 5)
+    ∷ (function (hex "5A 02 08 01"), refused 4 5)
+    ∷ (function (hex "10 01 10 01 18 01 42 00 60 01 60 01 72 00"), pass tt)  -- 2, 3, 8, 12 and 14 are unknown
+    ∷ (called 6, pass tt)  -- a function is at depth 1
+    ∷ (called 7, refused 6 49)
+    ∷ (default 6, pass tt)
+    ∷ (default 7, refused 6 47)
     ∷ []
 
 -- The way to a message of each kind, and to a graph of each depth up to 8.
@@ -69,6 +94,10 @@ ways =
     ∷ hex "3A 0A 2A 32 0A 2A 32 0A 2A 32 0A 2A 32 0A 2A 32 0A 2A 32 0A 2A 32"
     ∷ []
 
+-- And from a function inwards: to itself, an import, a node, a default.
+functionWays : List Bytes
+functionWays = [] ∷ hex "4A" ∷ hex "3A" ∷ hex "5A" ∷ []
+
 -- Fields that no row names: a padded tag of each wire type, a padded value, a padded length.
 unknown : List Bytes
 unknown =
@@ -84,12 +113,13 @@ unknown =
 padded : List (Bytes × Rule)
 padded =
     flatMap (λ way. map (λ field. (inside way field, refused 9 (2 * length way))) unknown) ways
+    ++ flatMap (λ way. map (λ field. (function (inside way field), refused 9 (3 + 2 * length way))) unknown) functionWays
     ++ ((hex "88 00 08", refused 9 0)  -- ir_version: tag, value
     ∷ (hex "08 88 00", refused 9 0)
     ∷ (hex "08 80 80 80 80 80 80 80 80 80 00", refused 9 0)  -- of ten bytes
     ∷ (hex "08 08 3A 80 00", refused 9 2)  -- graph: length
     ∷ (hex "CA 01 80 00", refused 9 0)  -- functions: length
-    ∷ (hex "CA 01 02 80 00", pass tt)  -- and what it holds is not read
+    ∷ (function (hex "52 80 00"), refused 9 3)  -- a function's domain: length
     ∷ (inside (hex "42") (hex "8A 00 00"), refused 9 2)  -- domain: tag, length
     ∷ (inside (hex "42") (hex "0A 80 00"), refused 9 2)
     ∷ (inside (hex "42") (hex "10 8D 00"), refused 9 2)  -- version: value
@@ -144,5 +174,5 @@ padded =
     ∷ [])
 
 walks-hold : map (λ s. firstWalk (s .0)) (walks ++ padded) ≡ map (λ s. s .1) (walks ++ padded)
-unfolding walks nested graphs inside ways unknown padded flatMap Notation·computes FirstWalk·computes
+unfolding walks nested graphs function called default inside ways functionWays unknown padded flatMap Notation·computes FirstWalk·computes
 walks-hold = refl

@@ -10,6 +10,7 @@ pub use walks::first_walk;
 pub enum Kind {
     Model,
     OperatorSetId,
+    Function,
     Graph,
     Node,
     Attribute,

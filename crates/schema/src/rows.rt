@@ -13,7 +13,7 @@ fn model_row(number: u64) -> Row
         1 => Row::Once(Holds::Varint), // ir_version
         7 => Row::Once(Holds::Message(Kind::Graph)), // graph
         8 => Row::Many(Holds::Message(Kind::OperatorSetId)), // opset_import
-        25 => Row::Many(Holds::Bytes), // functions
+        25 => Row::Many(Holds::Message(Kind::Function)), // functions
         _ => Row::Unknown,
     }
 }
@@ -24,6 +24,23 @@ fn operator_set_id_row(number: u64) -> Row
     match number {
         1 => Row::Once(Holds::Bytes), // domain
         2 => Row::Once(Holds::Varint), // version
+        _ => Row::Unknown,
+    }
+}
+
+fn function_row(number: u64) -> Row
+    ensures { λ r. ⌜ r ≡ rowOf kind.Function number ⌝ }
+{
+    match number {
+        1 => Row::Once(Holds::Bytes), // name
+        4 => Row::Many(Holds::Bytes), // input
+        5 => Row::Many(Holds::Bytes), // output
+        6 => Row::Many(Holds::Bytes), // attribute
+        7 => Row::Many(Holds::Message(Kind::Node)), // node
+        9 => Row::Many(Holds::Message(Kind::OperatorSetId)), // opset_import
+        10 => Row::Once(Holds::Bytes), // domain
+        11 => Row::Many(Holds::Message(Kind::Attribute)), // attribute_proto
+        13 => Row::Once(Holds::Bytes), // overload
         _ => Row::Unknown,
     }
 }
@@ -152,6 +169,7 @@ pub fn row_of(kind: Kind, number: u64) -> Row
     match kind {
         Kind::Model => model_row(number),
         Kind::OperatorSetId => operator_set_id_row(number),
+        Kind::Function => function_row(number),
         Kind::Graph => graph_row(number),
         Kind::Node => node_row(number),
         Kind::Attribute => attribute_row(number),

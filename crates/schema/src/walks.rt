@@ -6,7 +6,7 @@ ghost use Prim.Native.Nat.{_≤_};
 ghost use lib.Dec.{eqb};
 ghost use Rattle.wire.specs.Answers.{tagSays, fieldSays};
 ghost use Rattle.varint.specs.Outcome.{refused};
-ghost use Rattle.schema.specs.Rows.{opened, isGraph};
+ghost use Rattle.schema.specs.Rows.{opened, hasNodes};
 ghost use Rattle.schema.specs.FirstWalk.{wireOf, fits, slotOf, kindOf, deeper, walked, firstWalk};
 ghost use Rattle.schema.specs.Answers.{walkSays, contentSays, silent, slotIndex, takenIn};
 use crate::Content;
@@ -112,11 +112,13 @@ fn content_of(row: Row) -> Content
     }
 }
 
-fn is_graph(kind: Kind) -> bool
-    ensures { λ r. ⌜ r ≡ isGraph kind ⌝ }
+// A graph or a function.
+fn has_nodes(kind: Kind) -> bool
+    ensures { λ r. ⌜ r ≡ hasNodes kind ⌝ }
 {
     match kind {
         Kind::Graph => true,
+        Kind::Function => true,
         Kind::Model => false,
         Kind::OperatorSetId => false,
         Kind::Node => false,
@@ -131,9 +133,9 @@ fn is_graph(kind: Kind) -> bool
 }
 
 fn is_too_deep(kind: Kind, depth: usize) -> bool
-    ensures { λ r. ⌜ r ≡ (isGraph kind && eqb depth 8) ⌝ }
+    ensures { λ r. ⌜ r ≡ (hasNodes kind && eqb depth 8) ⌝ }
 {
-    if is_graph(kind) {
+    if has_nodes(kind) {
         return depth == DEEPEST;
     }
     false
@@ -144,7 +146,7 @@ fn depth_in(kind: Kind, depth: usize) -> usize
     requires { ⌜ depth ≤ 8 ⌝ }
     ensures { λ r. ⌜ r ≡ deeper kind depth ⌝ }
 {
-    if is_graph(kind) {
+    if has_nodes(kind) {
         return depth + 1;
     }
     depth

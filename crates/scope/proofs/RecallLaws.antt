@@ -13,12 +13,13 @@ use Rattle.index.specs.declared.Found.{Found}
 use Rattle.index.specs.Listing.{Held}
 use Rattle.index.specs.declared.listings.Listing.{Listing}
 use Rattle.index.proofs.UseLaws.{indexed-none}
-use Rattle.index.proofs.ListingLaws.{held-all, held-fewer, held-then}
+use Rattle.index.proofs.ListingLaws.{held-all, held-fewer, held-then, listed-held}
+use Rattle.headers.specs.declared.imports.Imports.{Imports}
 use Rattle.headers.proofs.ListedLaws.{imported-held}
 use Rattle.rules.specs.Names.{Name, nameIn}
 use Rattle.rules.specs.Verdict.{room}
 use Rattle.scope.specs.Scope.{stored, recorded, scopeIn, bytesIn, Direct}
-use Rattle.scope.specs.Recall.{Recalls, Recalling, RememberedOn, AddedOn, Recalled, Minded, Minds}
+use Rattle.scope.specs.Recall.{Recalls, Recalling, RememberedOn, AddedOn, HeldOn, Recalled, Minded, Minds}
 use Rattle.scope.specs.declared.remembered.Index.{Index}
 use Rattle.scope.proofs.RecordLaws.{recorded-other, recorded-same, name-direct}
 use Rattle.scope.proofs.ScopeLaws.{Searching}
@@ -59,6 +60,10 @@ recalls-none model seed cells (suc n) = record { memory = record { index = index
 
 -- ---- both parts of the extra cells
 
+-- the same cells, with other lists in them
+abbrev pub holding : Index → Imports → Listing → Index
+holding ix imports attributes = record { seed = ix .seed; split = ix .split; imports = imports; attributes = attributes }
+
 module _ {model : Bytes} {ix : Index} where
   pub recalled-none : {cells extra : List ℕ} → Recalling model ix cells extra → Recalled model ix cells extra extra
   recalled-none m = record { recalls = m; size = refl; lists = refl }
@@ -84,6 +89,25 @@ module _ {model : Bytes} {ix : Index} where
         size = r .size;
         lists = r .lists;
       })
+
+  -- lists were changed alone
+  pub recalling-held : {cells before after : List ℕ} → Recalling model ix cells before → HeldOn model ix before after → Recalling model ix cells after
+  recalling-held {cells} {before} {after} m h = record {
+    both = record {
+      fits = omega (arith, m .both .fits, h .size);
+      names = subst (λ (l : List ℕ). Indexed model (ix .seed) (tableOf l) (known l)) (sym (h .names)) (m .both .names);
+      lists = h .lists .index;
+    };
+    scope = subst (λ (l : List ℕ). Recalls model (ix .seed) cells l) (sym (h .names)) (m .scope);
+  }
+
+  -- what the lists hold of imports and attributes is no part of it
+  module _ {imports : Imports} {attributes : Listing} {cells extra : List ℕ} where
+    pub recalling-with : Recalling model ix cells extra → Recalling model (holding ix imports attributes) cells extra
+    recalling-with m = record { both = record { fits = m .both .fits; names = m .both .names; lists = m .both .lists }; scope = m .scope }
+
+    pub recalling-without : Recalling model (holding ix imports attributes) cells extra → Recalling model ix cells extra
+    recalling-without m = record { both = record { fits = m .both .fits; names = m .both .names; lists = m .both .lists }; scope = m .scope }
 
   -- ---- with lists
 
@@ -121,14 +145,27 @@ module _ {model : Bytes} {ix : Index} where
     held = a .lists .held;
   }
 
-  -- what a graph goes by stays, as long as the names below its lists do
-  pub minds-still : {top : ℕ} {cells later before after : List ℕ} → Minds model ix top cells before → Minded model ix top later before after → Minds model ix top later after
-  minds-still m n = record {
-    recalls = n .recalls;
-    imported = imported-held (held-fewer (m .above) (n .held)) (m .imported);
-    above = m .above;
-    fits = n .held .fits;
-  }
+  module _ {imports attributes : List Bytes} where
+    -- what a graph goes by stays, as long as the names below its lists do
+    pub minds-still : {top : ℕ} {cells later before after : List ℕ}
+        → Minds model imports attributes ix top cells before → Minded model ix top later before after
+        → Minds model imports attributes ix top later after
+    minds-still m n = record {
+      recalls = n .recalls;
+      imported = imported-held (held-fewer (m .above) (n .held)) (m .imported);
+      resolved = listed-held (held-fewer (m .beyond) (n .held)) (m .resolved);
+      above = m .above;
+      beyond = m .beyond;
+      fits = n .held .fits;
+    }
 
-  pub minds-higher : {top more : ℕ} {cells extra : List ℕ} → Minds model ix top cells extra → top ≤ more → more ≤ known (drop (ix .split) extra) → Minds model ix more cells extra
-  minds-higher m h k = record { recalls = m .recalls; imported = m .imported; above = (let a = m .above in omega arith); fits = k }
+    pub minds-higher : {top more : ℕ} {cells extra : List ℕ} → Minds model imports attributes ix top cells extra → top ≤ more → more ≤ known (drop (ix .split) extra)
+        → Minds model imports attributes ix more cells extra
+    minds-higher m h k = record {
+      recalls = m .recalls;
+      imported = m .imported;
+      resolved = m .resolved;
+      above = (let a = m .above in omega arith);
+      beyond = (let b = m .beyond in omega arith);
+      fits = k;
+    }

@@ -24,8 +24,8 @@ use Rattle.wire.proofs.Reading.{Fits, AtTag, field-tells}
 use Rattle.wire.proofs.EncodingLaws.{contents-there}
 use Rattle.wire.proofs.MessageLaws.{first-read}
 use Rattle.schema.specs.declared.Kind.{Kind}
-use Rattle.schema.specs.declared.Kind.the-variants.{Node, Tensor, ValueInfo}
-use Rattle.schema.specs.Numbers.{ValueInfo·name, Tensor·name, Node·output}
+use Rattle.schema.specs.declared.Kind.the-variants.{Function, Node, Tensor, ValueInfo}
+use Rattle.schema.specs.Numbers.{ValueInfo·name, Tensor·name, Function·input, Node·output}
 use Rattle.schema.specs.Rows.{rowOf, Rows·computes}
 use Rattle.schema.specs.FirstWalk.{wireOf, fits}
 use Rattle.schema.specs.Opened.{Walked}
@@ -159,6 +159,10 @@ value-info-name = (λ wire. refl, omega arith)
 pub tensor-name : OfBytes Tensor Tensor·name
 unfolding fits wireOf Rows·computes
 tensor-name = (λ wire. refl, omega arith)
+
+pub function-input : OfBytes Function Function·input
+unfolding fits wireOf Rows·computes
+function-input = (λ wire. refl, omega arith)
 
 pub node-output : OfBytes Node Node·output
 unfolding fits wireOf Rows·computes

@@ -10,9 +10,9 @@ use Rattle.wire.specs.declared.Field.{Field}
 use Rattle.varint.specs.Bytes.{Bytes}
 use Rattle.wire.specs.Message.{text}
 use Rattle.index.specs.Memory.{Remembered}
-use Rattle.index.specs.Listing.{Added}
+use Rattle.index.specs.Listing.{Added, Held}
 use Rattle.index.specs.declared.listings.Listing.{Listing}
-use Rattle.scope.specs.Recall.{RememberedOn, AddedOn}
+use Rattle.scope.specs.Recall.{RememberedOn, AddedOn, HeldOn}
 use Rattle.scope.specs.declared.remembered.Index.{Index}
 
 -- the others, as they are lent
@@ -54,3 +54,18 @@ module _ {model : Bytes} (ix : Index) {extra : List ℕ} (h : ix .split ≤ leng
         names = take-first (take (ix .split) extra) new first;
         lists = subst (λ (x : List ℕ). Added model (ix .seed) l name (drop (ix .split) extra) x r) (sym (drop-first (take (ix .split) extra) new first)) b;
       })
+
+  pub held-on : {new : List ℕ} → Held model (ix .seed) 0 (take (length extra - ix .split) (drop (ix .split) extra)) new
+      → HeldOn model ix extra (putMid (ix .split) (length extra - ix .split) extra new)
+  held-on {new} k =
+      let first = length-take-le (ix .split) extra h in
+      let b : Held model (ix .seed) 0 (drop (ix .split) extra) new = rw (others-lent (ix .split) extra) at k in
+      rw (put-others (ix .split) extra new) (record {
+        size = length-append (take (ix .split) extra) new ∙ omega (arith, first, b .size, length-drop (ix .split) extra);
+        names = take-first (take (ix .split) extra) new first;
+        lists = subst (λ (x : List ℕ). Held model (ix .seed) 0 (drop (ix .split) extra) x) (sym (drop-first (take (ix .split) extra) new first)) b;
+      })
+
+-- what was put in their place
+pub others-put : (split : ℕ) (extra new : List ℕ) → split ≤ length extra → drop split (putMid split (length extra - split) extra new) ≡ new
+others-put split extra new h = ap (drop split) (put-others split extra new) ∙ drop-first (take split extra) new (length-take-le split extra h)

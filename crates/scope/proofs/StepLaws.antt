@@ -139,7 +139,7 @@ adding-start model number names rule first p c a = record { along = a; grown = o
 
 -- a graph of which nothing is known but whether it is the main one
 abbrev pub plain : Bool → Context
-plain main = record { imports = []; main = main; ir-version = 0 }
+plain main = record { imports = []; main = main; ir-version = 0; attributes = [] }
 
 -- ---- the step of a tally
 

@@ -9,9 +9,8 @@ use Rattle.varint.specs.Bytes.{Bytes}
 use Rattle.wire.specs.Message.{text}
 use Rattle.index.specs.Table.{Indexed}
 use Rattle.index.specs.Memory.{known, tableOf, Remembers, Remembered}
-use Rattle.index.specs.Listing.{Held, Added}
+use Rattle.index.specs.Listing.{Listed, Held, Added}
 use Rattle.index.specs.declared.listings.Listing.{Listing}
-use Rattle.headers.specs.Imports.{importsIn}
 use Rattle.headers.specs.Imported.{Imported}
 use Rattle.scope.specs.Scope.{recorded}
 use Rattle.scope.specs.declared.remembered.Index.{Index}
@@ -43,6 +42,12 @@ pub record AddedOn (model : Bytes) (ix : Index) (l : Listing) (name : Bytes) (be
   pub names : take (ix .split) after ≡ take (ix .split) before
   pub lists : Added model (ix .seed) l name (drop (ix .split) before) (drop (ix .split) after) r
 
+-- Lists were changed alone: the part for the scope is as it was, the other still indexed.
+pub record HeldOn (model : Bytes) (ix : Index) (before after : List ℕ) : Type 0 where
+  pub size : length after ≡ length before
+  pub names : take (ix .split) after ≡ take (ix .split) before
+  pub lists : Held model (ix .seed) 0 (drop (ix .split) before) (drop (ix .split) after)
+
 -- ---- what functions promise of the extra cells, where they were `before` and are `after`
 
 -- Of those that change the scope alone.
@@ -57,9 +62,11 @@ pub record Minded (model : Bytes) (ix : Index) (top : ℕ) (cells before after :
   pub size : length after ≡ length before
   pub held : Held model (ix .seed) top (drop (ix .split) before) (drop (ix .split) after)
 
--- What a graph goes by, whose lists begin at `top`: the lists hold the imports below that.
-pub record Minds (model : Bytes) (ix : Index) (top : ℕ) (cells extra : List ℕ) : Type 0 where
+-- What a graph goes by, whose lists begin at `top`: the lists hold the imports and the attributes around it below that.
+pub record Minds (model : Bytes) (imports attributes : List Bytes) (ix : Index) (top : ℕ) (cells extra : List ℕ) : Type 0 where
   pub recalls : Recalling model ix cells extra
-  pub imported : Imported model (ix .seed) (drop (ix .split) extra) (ix .imports) (importsIn model)
+  pub imported : Imported model (ix .seed) (drop (ix .split) extra) (ix .imports) imports
+  pub resolved : Listed model (ix .seed) (drop (ix .split) extra) (ix .attributes) attributes
   pub above : ix .imports .listing .top ≤ top
+  pub beyond : ix .attributes .top ≤ top
   pub fits : top ≤ known (drop (ix .split) extra)

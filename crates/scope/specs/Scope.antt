@@ -106,13 +106,13 @@ pub record Direct (model : Bytes) (name : Field) : Type 0 where
   pub there : name .start ≡ contentsAt (name .place) (name .next - name .start)
 
 -- The walk may go into a field: the model is short enough for a cell to hold any place of it, the first walk passed the field's message,
--- and no more nodes have been counted than bytes stand before the field.
+-- and so few nodes have been counted that with one for each byte of the field they are no more than 2^33.
 pub record Enters (model : Bytes) (kind : Kind) (p : Progress) (f : Field) : Type 0 where
   pub short : length model < 2 ^ 32
   pub walked : Walked model kind f
   pub tagged : f .place < f .start
   pub ends : f .start ≤ f .next
-  pub few : p .nodes ≤ f .place
+  pub few : p .nodes + f .next ≤ f .place + 2 ^ 33
 
 -- What is counted of a field are no more nodes than it has bytes.
 unfoldable pub counted : Field → Progress → Step → Type 0

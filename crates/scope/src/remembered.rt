@@ -36,11 +36,13 @@ use varint::between;
 use varint::same_bytes;
 use wire::Field;
 
-// How the extra cells are used: the caller's seed, how many of them are for the scope, and what the rest holds of the imports.
+// How the extra cells are used: the caller's seed, how many of them are for the scope, and what the rest holds of the imports, and of the attributes of the
+// function that is judged.
 pub struct Index {
     pub seed: u64,
     pub split: usize,
     pub imports: Imports,
+    pub attributes: Listing,
 }
 
 // Has the record this name? Lengths are compared first, so that a longer or shorter name is not read.

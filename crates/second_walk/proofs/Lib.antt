@@ -1,4 +1,9 @@
 pub mod ListAgain
 pub mod AgainLaws
-pub mod HeldLaws
+pub mod GraphAgain
+pub mod FunctionAgain
+pub mod PartLaws
+pub mod ZeroLaws
+pub mod MainLaws
+pub mod LoopLaws
 pub mod WalkLaws

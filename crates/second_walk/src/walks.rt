@@ -1,53 +1,33 @@
-// The second walk: the header, then the main graph.
+// The second walk: the header, the main graph, then the functions.
 ghost use mathlib.Core.Path.{_≡_};
-ghost use Prim.Native.Nat.{_^_, _<_};
-ghost use lib.ListN.{length, drop};
-ghost use Rattle.wire.specs.Message.{message, whole};
+ghost use Prim.Native.Nat.{_^_, _≤_, _<_};
+ghost use lib.ListN.{length, replicate};
+ghost use Rattle.wire.specs.Message.{numberOf, message, whole};
 ghost use Rattle.varint.specs.Outcome.{pass};
-ghost use Rattle.schema.specs.Answers.{silent};
 ghost use Rattle.schema.specs.FirstWalk.{firstWalk};
-ghost use Rattle.rules.specs.Header.{header, secondWalk};
+ghost use Rattle.schema.specs.Numbers.{Model·ir-version};
+ghost use Rattle.rules.specs.Header.{secondWalk};
 ghost use Rattle.rules.specs.Verdict.{fills};
 ghost use Rattle.scope.specs.Scope.{stepSays};
-ghost use Rattle.scope.specs.Recall.{Remembering, Recalling};
-ghost use Rattle.values.specs.Answers.{rulingSays};
-ghost use Rattle.headers.specs.Imported.{Outlined, rulingOf, holds};
-ghost use Rattle.second_walk.specs.Held.{HeldOn};
-use cycle::graph;
-use headers::Heading;
-use headers::header;
+ghost use Rattle.headers.specs.Imported.{Outlined};
+use crate::mains::main_graph;
+use crate::model_functions::functions;
+use crate::tables::table_at;
 use headers::model_outline;
-use headers::ruling_of;
 use headers::whole;
-use messages::Surroundings;
 use scope::Index;
-use scope::Progress;
 use scope::Step;
-use scope::standing;
-use scope::stopped;
-use values::Ruling;
-use values::numbers::MODEL_GRAPH;
 use values::numbers::MODEL_IR_VERSION;
 use wire::Outline;
-use wire::Sought;
 
-// "to depth 8, the main graph being depth 1"
-const DEEPEST: usize = 8;
-
-// The header, with the imports in the part of the extra cells that is for lists.
-fn head(model: &[u8], list: &[u8], extra: &mut [u32], ix: Index, o: Outline) -> Heading
+fn ir_version(model: &[u8], o: Outline) -> u64
     requires { ⌜ Outlined (now model) o ⌝ }
-    requires { ⌜ Remembering (now model) ix (now extra) ⌝ }
-    requires { ⌜ length (now model) < 2 ^ 32 ⌝ }
-    ensures answer { λ r. ⌜ rulingSays (rulingOf r) ≡ silent (header (now (model .entry)) (now (list .entry)) (message (now (model .entry)) (whole (now (model .entry))))) ⌝ }
-    ensures imported { λ r. ⌜ holds (now (model .entry)) (ix .seed) (drop (ix .split) (now (extra .exit))) r ⌝ }
-    ensures held { λ _. ⌜ HeldOn (now (model .entry)) ix (now (extra .entry)) (now (extra .exit)) ⌝ }
+    ensures { λ r. ⌜ r ≡ numberOf Model·ir-version (message (now (model .entry)) (whole (now (model .entry)))) ⌝ }
 {
-    let split = ix.split;
-    header(model, list, &mut extra[split..], ix.seed, o)
+    whole(model).first_from(model, MODEL_IR_VERSION, o.first).value()
 }
 
-// "Header order: ..", "Then the main graph."
+// With extra cells that are all zero.
 pub fn second_walk(
     model: &[u8],
     list: &[u8],
@@ -55,36 +35,19 @@ pub fn second_walk(
     extra: &mut [u32],
     ix: Index,
 ) -> Step
-    requires { ⌜ Recalling (now model) ix (now cells) (now extra) ⌝ }
+    requires { ⌜ now extra ≡ replicate (length (now extra)) 0 ⌝ }
+    requires { ⌜ ix .split ≤ length (now extra) ⌝ }
     requires { ⌜ length (now model) < 2 ^ 32 ⌝ }
     requires { ⌜ firstWalk (now model) ≡ pass tt ⌝ }
     ensures answer { λ r. ⌜ stepSays (now (model .entry)) (now (cells .exit)) r ≡ secondWalk (now (model .entry)) (now (list .entry)) (fills (length (now (cells .entry)))) ⌝ }
     ensures size { λ _. ⌜ length (now (cells .exit)) ≡ length (now (cells .entry)) ⌝ }
 {
-    let start = Progress {
-        used: 0,
-        nodes: 0,
-        most: 0,
-        odd: 0,
-    };
     let o = model_outline(model);
-    let heading = head(model, list, extra, ix, o);
-    let Heading::Imported(imports) = heading else {
-        return standing(start, ruling_of(heading));
+    let version = ir_version(model, o);
+    let last = table_at(model, o.fourth, ix.split, extra.len());
+    let walked = main_graph(model, list, cells, &mut extra[..last], ix, o, version);
+    let Step::Went(p) = walked else {
+        return walked;
     };
-    let m = whole(model);
-    let top = imports.listing.top;
-    let known = Index {
-        seed: ix.seed,
-        split: ix.split,
-        imports: imports,
-    };
-    let around = Surroundings {
-        main: true,
-        version: m.first_from(model, MODEL_IR_VERSION, o.first).value(),
-    };
-    match m.first_from(model, MODEL_GRAPH, o.second) {
-        Sought::Missing => stopped(Ruling::NO_GRAPH, m.place),
-        Sought::Found(g, _) => graph(model, cells, extra, known, top, DEEPEST, around, start, g),
-    }
+    functions(model, list, cells, extra, ix, last, version, o.fourth, p)
 }

@@ -18,12 +18,13 @@ use Rattle.varint.specs.Bytes.{Bytes}
 use Rattle.wire.specs.Wire.{field, fields}
 use Rattle.wire.specs.Message.{Message, allOf, firstOf, numberOf, message}
 use Rattle.wire.specs.Answers.{contentsOf, fieldSays, withCursor}
-use Rattle.varint.proofs.Lists.{some-same, or-swap, no-first, true-T, T-false, subset, contains-subset, NoneOf, none-contained}
+use Rattle.varint.proofs.Lists.{some-same, or-swap, no-first, true-T, T-true, T-false, subset, contains-subset, NoneOf, none-contained}
 use Rattle.wire.proofs.CursorLaws.{answer-read, answer-refused}
 use Rattle.wire.proofs.Reading.{Fits, field-tells}
 use Rattle.wire.proofs.Fields.{fields-done, fields-step, fields-stop}
 use Rattle.schema.specs.Numbers.{Attribute·type, Attribute·g, Attribute·graphs}
-use Rattle.rules.specs.Node.{carriers, carrierNumbers, needed, foreign, badValue}
+use Rattle.rules.specs.Node.{carriers, carrierNumbers, needed, foreign, badValue, badReference}
+use Rattle.rules.specs.Function.{badDefault}
 
 -- ---- numbers that no arm of a `match` has
 
@@ -211,6 +212,21 @@ zero-free = refl
 
 module _ (model : Bytes) (a : Field) {kind : ℕ} (k : kind ≡ numberOf Attribute·type (message model a)) {mine : ℕ}
     (c : mine ≡ elim (lookup kind carriers) [ none ↦ 0 | some n ↦ n ]) where
+  -- the type is outside 1..14, or not
+  untyped : mine ≡ 0 → lookup kind carriers ≡ none
+  untyped h = go (lookup kind carriers) refl (sym c ∙ h)
+    where
+      go : (o : Option ℕ) → lookup kind carriers ≡ o → carrierBy o ≡ 0 → o ≡ none
+      go none e z = refl
+      go (some n) e z = absurd (nonzero kind carriers zero-free (e ∙ ap some z))
+
+  typed : (mine ≡ 0 → ⊥) → lookup kind carriers ≡ some mine
+  typed h = go (lookup kind carriers) c
+    where
+      go : (o : Option ℕ) → mine ≡ carrierBy o → o ≡ some mine
+      go none e = absurd (h e)
+      go (some n) e = ap some (sym e)
+
   Valued : Option ℕ → Bool
   Valued o = elim o [ none ↦ true | some n ↦ foreign n carriers (message model a) || (needed kind && isEmpty (allOf n (message model a))) ]
 
@@ -220,24 +236,13 @@ module _ (model : Bytes) (a : Field) {kind : ℕ} (k : kind ≡ numberOf Attribu
 
   pub value-outside : mine ≡ 0 → true ≡ badValue (numberOf Attribute·type (message model a)) (message model a)
   unfolding Valued
-  value-outside h = go (lookup kind carriers) refl (sym c ∙ h)
-    where
-      go : (o : Option ℕ) → lookup kind carriers ≡ o → carrierBy o ≡ 0 → true ≡ badValue (numberOf Attribute·type (message model a)) (message model a)
-      go none e z = value-by e
-      go (some n) e z = absurd (nonzero kind carriers zero-free (e ∙ ap some z))
+  value-outside h = value-by (untyped h)
 
   module _ (h : mine ≡ 0 → ⊥) where
-    carried : lookup kind carriers ≡ some mine
-    carried = go (lookup kind carriers) c
-      where
-        go : (o : Option ℕ) → mine ≡ carrierBy o → o ≡ some mine
-        go none e = absurd (h e)
-        go (some n) e = ap some (sym e)
-
     valued : {b n i : Bool} → b ≡ foreign mine carriers (message model a) → n ≡ needed kind → i ≡ isEmpty (allOf mine (message model a))
         → (b || (n && i)) ≡ badValue (numberOf Attribute·type (message model a)) (message model a)
     unfolding Valued
-    valued e f g = rw (e, f, g) (value-by carried)
+    valued e f g = rw (e, f, g) (value-by (typed h))
 
     module _ {b : Bool} (e : b ≡ foreign mine carriers (message model a)) where
       pub value-foreign : b ≡ true → true ≡ badValue (numberOf Attribute·type (message model a)) (message model a)
@@ -261,3 +266,35 @@ module _ (model : Bytes) (a : Field) {kind : ℕ} (k : kind ≡ numberOf Attribu
           pub value-has : {x : Field} → some x ≡ firstOf mine (message model a) → false ≡ badValue (numberOf Attribute·type (message model a)) (message model a)
           unfolding firstOf present
           value-has g = held (no-first (allOf mine (message model a)) ∙ ap (λ (o : Option Field). not (present o)) (sym g))
+
+-- ---- references and defaults
+
+module _ (model : Bytes) (a : Field) {kind : ℕ} (k : kind ≡ numberOf Attribute·type (message model a)) where
+  reference-by : {o : Option ℕ} → lookup kind carriers ≡ o → (not (present o) || foreign 0 carriers (message model a)) ≡ badReference (numberOf Attribute·type (message model a)) (message model a)
+  unfolding badReference
+  reference-by e = ap (λ (o : Option ℕ). not (present o) || foreign 0 carriers (message model a)) (sym e) ∙ ap (λ (n : ℕ). badReference n (message model a)) k
+
+  module _ {mine : ℕ} (c : mine ≡ elim (lookup kind carriers) [ none ↦ 0 | some n ↦ n ]) where
+    pub reference-untyped : mine ≡ 0 → true ≡ badReference (numberOf Attribute·type (message model a)) (message model a)
+    unfolding present
+    reference-untyped h = reference-by (untyped model a k c h)
+
+    pub reference-typed : (mine ≡ 0 → ⊥) → {b : Bool} → b ≡ foreign 0 carriers (message model a)
+        → b ≡ badReference (numberOf Attribute·type (message model a)) (message model a)
+    unfolding present
+    reference-typed h e = e ∙ reference-by (typed model a k c h)
+
+  -- n is a type that the test of the code names
+  pub default-graph : {n : ℕ} → kind ≡ n → T (contains n (5 ∷ 10 ∷ [])) → true ≡ badDefault (numberOf Attribute·type (message model a)) (message model a)
+  unfolding badDefault
+  default-graph {n} e t =
+      ap (λ (b : Bool). b || badValue n (message model a)) (sym (T-true (contains n (5 ∷ 10 ∷ [])) t))
+      ∙ ap (λ (m : ℕ). badDefault m (message model a)) (sym e ∙ k)
+
+  pub default-other : NoneOf kind (10 ∷ 5 ∷ []) → {b : Bool} → b ≡ badValue (numberOf Attribute·type (message model a)) (message model a)
+      → b ≡ badDefault (numberOf Attribute·type (message model a)) (message model a)
+  unfolding badDefault contains subset
+  default-other h {b} e =
+      e ∙ ap (λ (n : ℕ). badValue n (message model a)) (sym k)
+      ∙ ap (λ (x : Bool). x || badValue kind (message model a)) (contained-none kind (5 ∷ 10 ∷ []) (10 ∷ 5 ∷ []) tt h)
+      ∙ ap (λ (m : ℕ). badDefault m (message model a)) k

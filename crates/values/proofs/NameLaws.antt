@@ -120,6 +120,33 @@ module _ (model : Bytes) (empty number : ℕ) (m : Field) (w : Walk) where
         unfolding _>>=_
         name-good {n} i = ap (λ (o : Option Field). pass (o, more w n)) k ∙ held (sym (tallied w e i) ∙ nonempty)
 
+-- ---- a field that is a name by itself
+
+module _ (model : Bytes) (empty : ℕ) (f : Field) {x : Bytes} (t : x ≡ text model f) (w : Walk) where
+  pub field-empty : length x ≡ 0 → refused empty (f .place) ≡ naming empty w (nameIn model f)
+  unfolding naming nameIn
+  field-empty h = sym (when-broken empty (f .place) _ (ap isEmpty (sym t) ∙ empty-none x h))
+
+  pub field-tested : (length x ≡ 0 → ⊥) → tested w (record { bytes = x; place = f .place }) ≡ naming empty w (nameIn model f)
+  unfolding naming nameIn
+  field-tested h =
+      ap (λ (y : Bytes). tested w (record { bytes = y; place = f .place })) t
+      ∙ sym (when-kept empty (f .place) _ (ap isEmpty (sym t) ∙ empty-some x h))
+
+-- t is the tally of it
+module _ (model : Bytes) (empty : ℕ) (f : Field) (t : Tally) (e : (w : Walk) → tallySays w t ≡ naming empty w (nameIn model f)) where
+  pub field-some : {k : ℕ} → t ≡ tally.Counted k → isEmpty (text model f) ≡ false
+  unfolding naming nameIn
+  field-some i = T-false _ (passed-rule empty _ _ (passed-seq _ _ _ (tallied start (e start) i) .0))
+
+  pub field-few : {k : ℕ} → t ≡ tally.Counted k → k ≤ 1
+  unfolding naming tested withTested more start
+  field-few i =
+      let same = pass-same _ _ (passed-seq _ _ _ (passed-seq _ _ _ (tallied start (e start) i) .1) .1) in
+      let odd = ap (λ (w : Walk). w .odd) same in
+      let few = oddity-few (nameIn model f .bytes) in
+      omega arith
+
 -- what an answer says of the walk
 pub naming-tally : (w : Walk) (empty number : ℕ) (model : Bytes) (m : Field) (n : Naming)
     → namingSays w n ≡ nameField model empty number w (message model m)

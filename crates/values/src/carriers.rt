@@ -6,7 +6,8 @@ ghost use lib.Dec.{eqb};
 ghost use Rattle.varint.specs.Lists.{contains, lookup};
 ghost use Rattle.wire.specs.Message.{numberOf, message};
 ghost use Rattle.schema.specs.Numbers.{Attribute·type, Attribute·g, Attribute·graphs};
-ghost use Rattle.rules.specs.Node.{carriers, carrierNumbers, needed, foreign, badValue};
+ghost use Rattle.rules.specs.Node.{carriers, carrierNumbers, needed, foreign, badValue, badReference};
+ghost use Rattle.rules.specs.Function.{badDefault};
 use crate::numbers::ATTRIBUTE_G;
 use crate::numbers::ATTRIBUTE_GRAPHS;
 use crate::numbers::ATTRIBUTE_TYPE;
@@ -130,5 +131,26 @@ pub fn is_bad_value(model: &[u8], a: Field) -> bool
     match a.first_of(model, mine) {
         Sought::Missing => true,
         Sought::Found(_, _) => false,
+    }
+}
+
+// "such an attribute has a type in 1..14 and no carrier, otherwise 32"
+pub fn is_bad_reference(model: &[u8], a: Field) -> bool
+    ensures { λ r. ⌜ r ≡ badReference (numberOf Attribute·type (message (now (model .entry)) a)) (message (now (model .entry)) a) ⌝ }
+{
+    if carrier_of(a.number_of(model, ATTRIBUTE_TYPE)) == 0 {
+        return true;
+    }
+    has_foreign(model, a, 0)
+}
+
+// "A default may not be a graph or graphs (32)"
+pub fn is_bad_default(model: &[u8], a: Field) -> bool
+    ensures { λ r. ⌜ r ≡ badDefault (numberOf Attribute·type (message (now (model .entry)) a)) (message (now (model .entry)) a) ⌝ }
+{
+    match a.number_of(model, ATTRIBUTE_TYPE) {
+        5 => true,
+        10 => true,
+        _ => is_bad_value(model, a),
     }
 }

@@ -7,11 +7,14 @@ mod tallies;
 mod types;
 
 pub use carriers::carrier_of;
+pub use carriers::is_bad_default;
+pub use carriers::is_bad_reference;
 pub use carriers::is_bad_value;
 pub use carriers::is_body;
 pub use names::Naming;
 pub use names::read_name;
 pub use names::tally_of;
+pub use names::test_name;
 pub use rulings::refused;
 pub use tallies::Tally;
 pub use tallies::adding;
@@ -27,7 +30,7 @@ pub enum Ruling {
     Refused(Refusal),
 }
 
-// Numbers of document 01's table, and 43 of document 02: those of size and list, of the second walk, and of a graph that stands too deep
+// Numbers of document 01's table, and 41, 42 and 43 of document 02: those of size and list, of the second walk, and of a graph that stands too deep
 // for it.
 impl Ruling {
     pub const TOO_DEEP: u8 = 6;
@@ -45,8 +48,6 @@ impl Ruling {
     pub const IMPORTED_TWICE: u8 = 13;
 
     pub const VERSION_NOT_LISTED: u8 = 14;
-
-    pub const FUNCTIONS_PRESENT: u8 = 15;
 
     pub const SPARSE_INITIALIZER: u8 = 16;
 
@@ -76,7 +77,7 @@ impl Ruling {
 
     pub const BAD_VALUE: u8 = 32;
 
-    pub const REFERENCE_PRESENT: u8 = 33;
+    pub const UNRESOLVED_REFERENCE: u8 = 33;
 
     pub const NO_OUTPUT: u8 = 34;
 
@@ -87,6 +88,10 @@ impl Ruling {
     pub const NEGATIVE_DIM: u8 = 38;
 
     pub const CELLS_FULL: u8 = 40;
+
+    pub const FUNCTION_TWICE: u8 = 41;
+
+    pub const FUNCTION_ATTRIBUTE_TWICE: u8 = 42;
 
     pub const INITIALIZER_NOT_INPUT: u8 = 43;
 }

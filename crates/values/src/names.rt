@@ -2,10 +2,12 @@
 ghost use mathlib.Core.Path.{_≡_};
 ghost use Rattle.varint.specs.Outcome.{refused};
 ghost use Rattle.wire.specs.Message.{message};
-ghost use Rattle.rules.specs.Walk.{Walk};
-ghost use Rattle.values.specs.Answers.{namingSays, nameField, tallyOf};
+ghost use Rattle.rules.specs.Names.{nameIn};
+ghost use Rattle.rules.specs.Walk.{Walk, naming};
+ghost use Rattle.values.specs.Answers.{tallySays, namingSays, nameField, tallyOf};
 use crate::tallies::Tally;
 use crate::tallies::tested;
+use crate::tallies::uncounted;
 use varint::Refusal;
 use wire::Field;
 use wire::Sought;
@@ -41,6 +43,17 @@ pub fn read_name(model: &[u8], m: Field, number: u64, empty: u8) -> Naming
         Tally::Refused(r) => Naming::Refused(r),
         Tally::Counted(odd) => Naming::Named(name, odd),
     }
+}
+
+// A field that is a name by itself: the same.
+pub fn test_name(model: &[u8], f: Field, empty: u8) -> Tally
+    ensures { λ r. ⌜ ((w : Walk) → tallySays w r ≡ naming empty w (nameIn (now (model .entry)) f)) ⌝ }
+{
+    let text = f.text(model);
+    if text.len() == 0 {
+        return uncounted(empty, f.place);
+    }
+    tested(text, f.place)
 }
 
 // What is counted of a name, or why it may not stand.

@@ -1,4 +1,4 @@
-// The numbers of the fields that the second walk reads, message by message, as in document 01's rows.
+// The numbers of the fields that the second walk reads, message by message, as in document 01's rows and document 02's.
 pub const MODEL_IR_VERSION: u64 = 1;
 
 pub const MODEL_GRAPH: u64 = 7;
@@ -10,6 +10,24 @@ pub const MODEL_FUNCTIONS: u64 = 25;
 pub const OPERATOR_SET_ID_DOMAIN: u64 = 1;
 
 pub const OPERATOR_SET_ID_VERSION: u64 = 2;
+
+pub const FUNCTION_NAME: u64 = 1;
+
+pub const FUNCTION_INPUT: u64 = 4;
+
+pub const FUNCTION_OUTPUT: u64 = 5;
+
+pub const FUNCTION_ATTRIBUTE: u64 = 6;
+
+pub const FUNCTION_NODE: u64 = 7;
+
+pub const FUNCTION_OPSET_IMPORT: u64 = 9;
+
+pub const FUNCTION_DOMAIN: u64 = 10;
+
+pub const FUNCTION_ATTRIBUTE_PROTO: u64 = 11;
+
+pub const FUNCTION_OVERLOAD: u64 = 13;
 
 pub const GRAPH_NODE: u64 = 1;
 

@@ -1,7 +1,8 @@
 //! Names that share a bucket, for whoever knows the seed: as names of each kind, in small and in large models.
 
+use super::function_attributes::with;
 use super::parts::*;
-use super::{accepted, defined, refused, twice};
+use super::{accepted, at_last, defined, refused, twice};
 use crate::buckets::{colliding, sharing, visible_buckets};
 use crate::checker::CELLS_PER_NAME;
 use crate::models::proto::Tree;
@@ -15,7 +16,7 @@ const MANY: usize = 1_000;
 
 pub fn few() -> Vec<Row> {
     let names = colliding(SEED, FEW);
-    [visible(&names), bodies(&names), lists(&names)].concat()
+    [visible(&names), bodies(&names), lists(&names), of_functions(&names)].concat()
 }
 
 /// A thousand visible names in one bucket, and fewer in the lists, where those who read names again take longer.
@@ -23,7 +24,8 @@ pub fn crafted() -> Vec<Row> {
     let same = colliding(SEED, MANY);
     let cells = CELLS_PER_NAME * MANY;
     let near = sharing(SEED, visible_buckets(cells, 4 * cells), MANY);
-    let mut rows = [visible(&same), bodies(&same), lists(&same[..300]), visible(&near)].concat();
+    let lists = [lists(&same[..300]), of_functions(&same[..300])].concat();
+    let mut rows = [visible(&same), bodies(&same), lists, visible(&near)].concat();
     for row in &mut rows {
         row.cells = row.cells.max(cells);
     }
@@ -85,5 +87,23 @@ fn lists(names: &[String]) -> Vec<Row> {
             (TENSOR_NAME, again, 1),
             (LISTED, again, 0),
         ),
+    ]
+}
+
+/// The same as names of functions, and of attributes that are referred to.
+fn of_functions(names: &[String]) -> Vec<Row> {
+    let (again, half) = (&names[names.len() / 2], names.len() / 2);
+    let functions = || names.iter().map(|name| function(name));
+    let one = |attributes: &[String], defaults: &[String], referred: &[String]| {
+        let numbered = referred.iter().enumerate();
+        let node = numbered.fold(node(&[], &[]), |node, (at, of)| node.tree(5, reference(&format!("k{at}"), of)));
+        with_functions(8, graph([]), [with(function("f"), attributes, defaults).tree(7, node)]).encode()
+    };
+    let twice = with_functions(8, graph([]), functions().chain([function(again)]));
+    vec![
+        accepted("functions in one bucket", with_functions(8, graph([]), functions()).encode(), 0, 0),
+        at_last("a function again", 41, twice),
+        accepted("references in one bucket", one(&names[..half], &names[half..], names), 1, 0),
+        refused("a default again", one(names, &names[half..=half], names), 42, (ATTRIBUTE_NAME, again, 0)),
     ]
 }

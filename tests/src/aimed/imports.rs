@@ -1,8 +1,7 @@
 //! Imports: each domain once, under either of its names, wherever they stand in the model; and nodes that use them.
 
 use super::parts::{graph, names, node};
-use super::{accepted, AGAIN, MANY};
-use crate::checker::Verdict;
+use super::{accepted, at_last, AGAIN, MANY};
 use crate::models::lists::{self, Entry};
 use crate::models::proto::Tree;
 use crate::rows::Row;
@@ -33,14 +32,6 @@ fn model(domains: &[&str], used: &[&str], unknown: usize) -> Tree {
     let (before, after) = domains.split_at(domains.len() / 2);
     let head = imports(Tree::new(Message::Model).number(1, 8), before);
     imports(head.tree(7, graph(nodes)), after)
-}
-
-/// Refused at the last import: nothing but it stands where it begins.
-fn at_last(name: &str, number: u64, mut model: Tree) -> Row {
-    let whole = model.encode();
-    model.items.pop();
-    let place = model.encode().len() as u64;
-    Row { name: name.into(), model: whole, list: list(), cells: 1, answer: Verdict::refused(number, place) }
 }
 
 fn few() -> Vec<Row> {

@@ -1,7 +1,7 @@
 //! Names and domains that differ in one byte, at each place: a comparison has to look at every byte, however many it takes at once.
 
 use super::parts::*;
-use super::{accepted, refused, twice};
+use super::{accepted, at_last, refused, twice};
 use crate::checker::{Counts, Verdict};
 use crate::models::lists::{self, Entry};
 use crate::models::proto::Tree;
@@ -14,7 +14,7 @@ const LENGTHS: [usize; 6] = [1, 7, 8, 9, 16, 17];
 pub fn near() -> Vec<Row> {
     let names = LENGTHS.into_iter().flat_map(|length| pairs(&"abcdefghijklmnopq"[..length]));
     let domains = LENGTHS.into_iter().flat_map(|length| pairs(&"org.example.other"[..length]));
-    let named = names.flat_map(|(one, other)| of_names(&one, &other));
+    let named = names.flat_map(|(one, other)| [of_names(&one, &other), of_functions(&one, &other)].concat());
     let imported = domains.flat_map(|(one, other)| of_domains(&one, &other));
     named.chain(imported).chain(pairs("ai.onnx").flat_map(|(_, other)| of_domains("", &other))).collect()
 }
@@ -37,6 +37,32 @@ fn of_names(one: &str, other: &str) -> Vec<Row> {
         accepted("two attributes", model(graph([attributes(&[one, other])])), 1, 0),
         refused("an attribute twice", model(graph([attributes(&[one, other, one])])), 31, (ATTRIBUTE_NAME, one, 1)),
         accepted("a default and another", model(default), 0, 2),
+    ]
+}
+
+/// Functions apart by name, by domain and by overload, and attributes that are referred to.
+fn of_functions(one: &str, other: &str) -> Vec<Row> {
+    let model = |functions: Vec<Tree>| with_functions(10, graph([]), functions);
+    let by_domain = |domain: &str| function("f").text(10, domain);
+    let by_overload = |overload: &str| function("f").text(13, overload);
+    let refers = |to: &str| function("f").text(6, one).tree(7, node(&[], &[]).tree(5, reference("k", to)));
+    let attributes = |names: &[&str]| names.iter().fold(function("f"), |function, name| function.text(6, name));
+    let refused_33 = {
+        let model = model(vec![refers(other)]).encode();
+        let answer = Verdict::refused(33, super::place_of_bytes(&model, ATTRIBUTE, &reference("k", other).encode(), 0));
+        Row { answer, ..accepted("a reference to the other", model, 1, 0) }
+    };
+    vec![
+        accepted("two functions", model(vec![function(one), function(other)]).encode(), 0, 0),
+        at_last("a function twice", 41, model(vec![function(one), function(other), function(one)])),
+        accepted("two domains of functions", model(vec![by_domain(one), by_domain(other)]).encode(), 0, 0),
+        at_last("a domain twice", 41, model(vec![by_domain(one), by_domain(other), by_domain(one)])),
+        accepted("two overloads", model(vec![by_overload(one), by_overload(other)]).encode(), 0, 0),
+        at_last("an overload twice", 41, model(vec![by_overload(one), by_overload(other), by_overload(one)])),
+        accepted("two attributes of a function", model(vec![attributes(&[one, other])]).encode(), 0, 0),
+        refused("one twice", model(vec![attributes(&[one, other, one])]).encode(), 42, (OF_FUNCTION, one, 1)),
+        accepted("a reference", model(vec![refers(one)]).encode(), 1, 0),
+        refused_33,
     ]
 }
 

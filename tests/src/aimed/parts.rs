@@ -4,7 +4,7 @@ use crate::models::proto::Tree;
 use crate::schema::Message;
 
 /// Tags of the fields that are refused: a node's input, output and name, an attribute's name, an initializer's name, the
-/// name of an input or output of a graph, a node's domain.
+/// name of an input or output of a graph, a node's domain; an attribute of a node, and one of a function.
 pub const READ: u8 = 0x0A;
 pub const BOUND: u8 = 0x12;
 pub const NODE_NAME: u8 = 0x1A;
@@ -12,6 +12,8 @@ pub const ATTRIBUTE_NAME: u8 = 0x0A;
 pub const TENSOR_NAME: u8 = 0x42;
 pub const LISTED: u8 = 0x0A;
 pub const DOMAIN: u8 = 0x3A;
+pub const ATTRIBUTE: u8 = 0x2A;
+pub const OF_FUNCTION: u8 = 0x32;
 
 pub fn model(graph: Tree) -> Vec<u8> {
     model_at(8, graph)
@@ -19,8 +21,27 @@ pub fn model(graph: Tree) -> Vec<u8> {
 
 /// A model of an IR version.
 pub fn model_at(ir_version: u64, graph: Tree) -> Vec<u8> {
-    let import = Tree::new(Message::OperatorSetId).number(2, 13);
-    Tree::new(Message::Model).number(1, ir_version).tree(8, import).tree(7, graph).encode()
+    with_functions(ir_version, graph, []).encode()
+}
+
+pub fn with_functions(ir_version: u64, graph: Tree, functions: impl IntoIterator<Item = Tree>) -> Tree {
+    let model = Tree::new(Message::Model).number(1, ir_version).tree(8, default_import()).tree(7, graph);
+    functions.into_iter().fold(model, |model, function| model.tree(25, function))
+}
+
+/// The default domain.
+pub fn default_import() -> Tree {
+    Tree::new(Message::OperatorSetId).number(2, 13)
+}
+
+/// A function with this name.
+pub fn function(name: &str) -> Tree {
+    Tree::new(Message::Function).text(1, name).tree(9, default_import())
+}
+
+/// An attribute with no value, which refers to one of the function's.
+pub fn reference(name: &str, of: &str) -> Tree {
+    attribute(name).text(21, of)
 }
 
 /// A graph of these nodes.

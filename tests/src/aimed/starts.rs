@@ -16,6 +16,7 @@ pub fn rows() -> Vec<Row> {
     let names = [1, 2, 7, 8, 9].map(|length| &START[..length]);
     let mut rows: Vec<Row> = names.into_iter().flat_map(|name| [of_nodes(name), of_values(name)].concat()).collect();
     rows.extend(names.into_iter().flat_map(of_domains));
+    rows.extend(names.into_iter().flat_map(of_functions));
     rows
 }
 
@@ -76,4 +77,20 @@ fn of_domains(domain: &str) -> Vec<Row> {
         refused("the default domain is not imported", with(vec![import(domain)], vec![of("")]), 28, (DOMAIN, "", 0)),
     ];
     rows.into_iter().map(|row| Row { list: list.clone(), ..row }).collect()
+}
+
+/// What a function lacks is no domain, overload or reference of that name.
+fn of_functions(name: &str) -> Vec<Row> {
+    let with = |functions: Vec<Tree>| begun(with_functions(10, graph([]), functions).encode());
+    let (plain, domain, overload) = (function("f"), function("f").text(10, name), function("f").text(13, name));
+    let empty = || node(&[], &[]).tree(5, attribute("k").text(21, ""));
+    let attributed = || function("f").text(6, name).tree(7, node(&[], &[]).tree(5, attribute("k"))).tree(7, empty());
+    let unknown = with(vec![function("f").text(6, "z").tree(7, empty()).text(5, name)]);
+    vec![
+        accepted("a domain and none", with(vec![plain.clone(), domain.clone()]), 0, 0),
+        accepted("an overload and none", with(vec![overload.clone(), plain]), 0, 0),
+        accepted("a domain and an overload", with(vec![domain, overload]), 0, 0),
+        accepted("attributes that refer to nothing", with(vec![attributed()]), 2, 0),
+        refused("an output that nothing binds", unknown, 35, (0x2A, name, 0)),
+    ]
 }

@@ -88,7 +88,7 @@ fn expected(files: &Files) -> String {
 fn cases() -> Vec<Files> {
     let mut cases = absences();
     cases.extend(sizes());
-    let by_hand = rows::by_hand().into_iter().chain(rows::ir_versions());
+    let by_hand = rows::by_hand().into_iter().chain(rows::functions()).chain(rows::ir_versions());
     for row in rows::document().into_iter().chain(by_hand).chain(rows::names()).chain(rows::wide()) {
         cases.push(Files { label: row.name, model: Some(row.model), list: Some(row.list) });
     }

@@ -40,9 +40,9 @@ fn part_end(rng: &mut Rng, at: usize, length: usize) -> usize {
     (at + 1 + rng.below(12)).min(length)
 }
 
-/// Bytes that often read as tags and short lengths: tags of the first fields, small numbers, letters.
+/// Bytes that often read as tags and short lengths: tags of the first fields and of a function's, small numbers, letters.
 pub fn likely_bytes(rng: &mut Rng, count: usize) -> Vec<u8> {
     const LIKELY: &[u8] =
-        b"\x08\x0a\x10\x12\x1a\x22\x2a\x3a\x42\x5a\x62\x6a\x00\x01\x02\x03\x04\x05\x07\x0d\x80\xff\xc3\xa9agw";
+        b"\x08\x0a\x10\x12\x1a\x22\x2a\x32\x3a\x42\x4a\x52\x5a\x62\x6a\xca\x00\x01\x02\x03\x04\x05\x07\x0d\x80\xff\xc3\xa9agw";
     (0..count).map(|_| *rng.pick(LIKELY)).collect()
 }

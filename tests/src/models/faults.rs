@@ -1,7 +1,9 @@
-//! Faults: small changes of a sound model, each aimed at one refusal number of document 01.
+//! Faults: small changes of a sound model, each aimed at one refusal number.
 //! A fault may miss, where the model has no place for it or another rule speaks first. Two faults in one model
 //! test the order of the rules.
 
+mod bodies;
+mod functions;
 mod header;
 mod initializers;
 mod names;
@@ -24,10 +26,9 @@ pub struct Fault {
 }
 
 pub fn all() -> Vec<&'static Fault> {
-    [wires::FAULTS, padding::FAULTS, header::FAULTS, rules::FAULTS, names::FAULTS, initializers::FAULTS]
-        .into_iter()
-        .flatten()
-        .collect()
+    let of_graphs = [header::FAULTS, rules::FAULTS, names::FAULTS, initializers::FAULTS];
+    let of_functions = [functions::FAULTS, bodies::FAULTS];
+    [wires::FAULTS, padding::FAULTS].into_iter().chain(of_graphs).chain(of_functions).flatten().collect()
 }
 
 impl Fault {
@@ -56,7 +57,28 @@ fn main_graph(tree: &mut Tree) -> Option<&mut Tree> {
     tree.children_mut(7).next()
 }
 
-/// Some field `number` of some graph: a node, an input, an initializer or an output, which the second walk judges.
+/// The number of the field that holds the nodes of a graph or a function.
+fn nodes_of(tree: &Tree) -> Option<u32> {
+    match tree.message {
+        Message::Graph => Some(1),
+        Message::Function => Some(7),
+        _ => None,
+    }
+}
+
+/// How many nodes a graph or a function has itself.
+fn node_count(tree: &Tree) -> usize {
+    nodes_of(tree).map_or(0, |number| tree.children(number).count())
+}
+
+/// Some node of some graph or function.
+fn some_node<'t>(tree: &'t mut Tree, rng: &mut Rng) -> Option<&'t mut Tree> {
+    let holder = tree.pick_mut(rng, &|tree| node_count(tree) > 0)?;
+    let at = rng.below(node_count(holder));
+    holder.children_mut(nodes_of(holder)?).nth(at)
+}
+
+/// Some field `number` of some graph: an input, an initializer or an output, which the second walk judges.
 /// (`some_message` of the same kind may also be a value_info or an attribute's tensor, which it does not.)
 fn some_part<'t>(tree: &'t mut Tree, rng: &mut Rng, number: u32) -> Option<&'t mut Tree> {
     let graph = tree.pick_mut(rng, &|tree| tree.message == Message::Graph && tree.children(number).next().is_some())?;

@@ -145,8 +145,6 @@ const MODELS: &[ModelRow] = &[
     ("13 before 14 in one import", "08 08 42 02 10 0D 42 02 10 06 3A 03 12 01 67", 13, 6),
     ("14, no version", "08 08 42 00 3A 03 12 01 67", 14, 2),
     ("14, a domain that the list lacks", "08 08 42 05 0A 01 78 10 0D 3A 03 12 01 67", 14, 2),
-    ("14 before 15", "CA 01 00 08 08 42 02 10 06 3A 03 12 01 67", 14, 5),
-    ("15 at the first, before 20", "CA 01 00 08 08 42 02 10 0D 3A 00 CA 01 00", 15, 0),
 ];
 
 /// Rows under other lists than L.

@@ -2,7 +2,7 @@
 //! the contents of initializers, zeros that nobody reads.
 
 use super::by_hand::GraphRow;
-use super::{accepted, hex, lengths, refused, row, Row, M1};
+use super::{accepted, hex, lengths, refused, row, Row, M0, M1};
 use crate::checker::Verdict;
 use crate::models::lists::L;
 use crate::models::sparse::Sparse;
@@ -15,7 +15,8 @@ pub(super) type Plan = (String, Sparse, &'static [u8], usize, Verdict);
 
 /// Each model is made when its turn comes, so that there is one at a time.
 pub fn large() -> impl Iterator<Item = Row> {
-    let plans = sizes().into_iter().chain(ends()).chain(apart()).chain(lengths::far());
+    let functions = behind_graph().chain(in_function());
+    let plans = sizes().into_iter().chain(ends()).chain(apart()).chain(functions).chain(lengths::far());
     plans.map(|(name, model, list, cells, answer)| row(&name, model.build(), list, cells, answer))
 }
 
@@ -123,5 +124,53 @@ fn apart() -> impl Iterator<Item = Plan> {
         let graph = Sparse::new(hex("12 01 67")).and(initializer(b'v', 1 << 30)).then(first);
         let graph = graph.and(initializer(b'w', left)).then(last);
         (format!("behind a name above 2^30: {name}"), model(graph), &L[..], *cells, from_the_end(*answer))
+    })
+}
+
+/// Functions that stand last in the model, behind the main graph.
+#[rustfmt::skip]
+const BEHIND_GRAPH: &[GraphRow] = &[
+    ("22", "CA 01 00", 2, (22, 3, 0)),
+    ("12", "CA 01 03 0A 01 66", 2, (12, 6, 0)),
+    ("41", "CA 01 07 0A 01 66 4A 02 10 0D CA 01 07 0A 01 66 4A 02 10 0D", 2, (41, 10, 0)),
+    ("two of them", "CA 01 07 0A 01 66 4A 02 10 0D CA 01 07 0A 01 67 4A 02 10 0D", 2, (0, 0, 1)),
+    ("30 of the initializer", "CA 01 11 0A 01 66 4A 02 10 0D 3A 08 0A 01 77 12 00 22 01 58", 2, (30, 8, 0)),
+    ("an input of its name", "CA 01 0A 0A 01 66 4A 02 10 0D 22 01 77", 2, (0, 0, 1)),
+];
+
+fn behind_graph() -> impl Iterator<Item = Plan> {
+    BEHIND_GRAPH.iter().map(|(name, last, cells, answer)| {
+        let last = hex(last);
+        let model = filled(MOST - last.len(), Sparse::default()).then(last);
+        (format!("functions last in the most bytes: {name}"), model, &L[..], *cells, from_the_end(*answer))
+    })
+}
+
+/// What stands last in the function `f`, which a doc_string fills.
+#[rustfmt::skip]
+const IN_FUNCTION: &[GraphRow] = &[
+    ("nothing", "", 0, (0, 0, 0)),
+    ("1", "22", 2, (1, 1, 0)),
+    ("5", "0A 01 67", 2, (5, 3, 0)),
+    ("9", "22 81 00", 2, (9, 3, 0)),
+    ("42", "32 01 61 32 01 61", 2, (42, 3, 0)),
+    ("32", "5A 03 0A 01 61", 2, (32, 5, 0)),
+    ("13", "4A 02 10 0D", 2, (13, 4, 0)),
+    ("23", "22 01 61 22 01 61", 4, (23, 3, MOST as u64 - 6)),
+    ("40", "22 01 61", 1, (40, 3, 0)),
+    ("30", "3A 08 0A 01 7A 12 00 22 01 58", 2, (30, 8, 0)),
+    ("33", "3A 11 12 00 22 01 58 2A 0A 0A 01 6B A0 01 02 AA 01 01 72", 2, (33, 12, 0)),
+    ("a reference", "32 01 72 3A 11 12 00 22 01 58 2A 0A 0A 01 6B A0 01 02 AA 01 01 72", 2, (0, 1, 0)),
+    ("35", "2A 01 61", 2, (35, 3, 0)),
+];
+
+fn in_function() -> impl Iterator<Item = Plan> {
+    IN_FUNCTION.iter().map(|(name, last, cells, answer)| {
+        let last = hex(last);
+        // M0; tag and length of the function, of the doc_string; name and import
+        let left = MOST - 11 - 7 - 6 - 7 - last.len();
+        let function = Sparse::new(hex("0A 01 66 4A 02 10 0D")).field(8, Sparse::default().zeros(left)).then(last);
+        let model = Sparse::new(hex(M0)).field(25, function);
+        (format!("last in a function of the most bytes: {name}"), model, &L[..], *cells, from_the_end(*answer))
     })
 }

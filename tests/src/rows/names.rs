@@ -91,19 +91,19 @@ fn value(name: &[u8], dim_param: &[u8]) -> Tree {
 
 /// How a name is to be taken: one that is UTF-8 counts so many times as odd.
 #[derive(Clone, Copy)]
-enum Taken {
+pub(super) enum Taken {
     Utf8(u64),
     Malformed,
 }
 
-fn all() -> impl Iterator<Item = (&'static [u8], Taken)> {
+pub(super) fn all() -> impl Iterator<Item = (&'static [u8], Taken)> {
     let identifiers = IDENTIFIERS.into_iter().map(|name| (name, Taken::Utf8(0)));
     let odd = ODD.into_iter().map(|name| (name, Taken::Utf8(1)));
     identifiers.chain(odd).chain(MALFORMED.into_iter().map(|name| (name, Taken::Malformed)))
 }
 
 /// Where this field stands first.
-fn place_of(model: &[u8], number: u32, name: &[u8]) -> u64 {
+pub(super) fn place_of(model: &[u8], number: u32, name: &[u8]) -> u64 {
     let field = Tree::new(Message::Node).text(number, name).encode();
     model.windows(field.len()).position(|part| part == field).expect("the field is there") as u64
 }

@@ -110,7 +110,9 @@ pub const MODELS: &[ModelRow] = &[
     ("9 of an import's version", "08 08 42 03 10 8D 00 3A 03 12 01 67", 9, 4),
     ("9 of an import's domain", "08 08 42 05 10 0D 0A 80 00 3A 03 12 01 67", 9, 6),
     ("9 of functions", "08 08 42 02 10 0D 3A 03 12 01 67 CA 81 00 00", 9, 11),
-    ("15, padded inside", "08 08 42 02 10 0D 3A 03 12 01 67 CA 01 02 88 00", 15, 11),
+    ("9 in a function", "08 08 42 02 10 0D 3A 03 12 01 67 CA 01 02 88 00", 9, 14),
+    ("9 in a function of a name's length", "08 08 42 02 10 0D 3A 03 12 01 67 CA 01 04 0A 81 00 66", 9, 14),
+    ("9 in a function of an unknown number", "08 08 42 02 10 0D 3A 03 12 01 67 CA 01 0A 0A 01 66 4A 02 10 0D 10 81 00", 9, 21),
     ("14, a domain as if padded", "08 08 42 06 10 0D 0A 02 80 00 3A 03 12 01 67", 14, 2),
     // 1 before 9: what is there is not ended
     ("1, a tag cut", "88 80", 1, 0),
@@ -182,6 +184,6 @@ pub const MODELS: &[ModelRow] = &[
     ("9 before 13", "08 08 42 02 10 0D 42 02 10 0D 3A 03 12 01 67 A2 06 80 00", 9, 15),
     ("9 before 14", "08 08 42 02 10 06 3A 03 12 01 67 A2 86 00 00", 9, 11),
     ("9 before 14, a padded version", "08 08 42 03 10 86 00 3A 03 12 01 67", 9, 4),
-    ("9 before 15", "CA 01 00 08 08 42 02 10 0D 3A 03 12 01 67 A0 06 80 00", 9, 14),
+    ("9 before a function's 22", "CA 01 00 08 08 42 02 10 0D 3A 03 12 01 67 A0 06 80 00", 9, 14),
     ("9 before 20", "08 08 42 02 10 0D 3A 00 A0 06 80 00", 9, 8),
 ];

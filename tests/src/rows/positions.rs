@@ -22,14 +22,21 @@ const TYPE: Step = ("0A 01 61", 2);
 const TYPE_TENSOR: Step = ("", 1);
 const SHAPE: Step = ("08 01", 2);
 const DIM: Step = ("", 1);
+const FUNCTION: Step = ("08 08 42 02 10 0D 3A 03 12 01 67", 25);
+const FUNCTION_IMPORT: Step = ("0A 01 66", 9);
+const FUNCTION_NODE: Step = ("0A 01 66 4A 02 10 0D", 7);
+const DEFAULT: Step = ("0A 01 66 4A 02 10 0D", 11);
 
-/// Document 01's rows: v a number, f four bytes, s bytes and m a message.
+const NODE_FIELDS: &str = "1s 2s 3s 4s 5m 7s";
+const ATTRIBUTE_FIELDS: &str = "1s 2f 3v 4s 5m 6m 7f 7s 8v 8s 9s 10m 11m 14s 15s 20v 21s 22s 23s";
+
+/// The rows of documents 01 and 02: v a number, f four bytes, s bytes and m a message.
 #[rustfmt::skip]
 const MESSAGES: &[(&str, &[Step], &str)] = &[
-    ("Model", &[], "1v 7m 8m 25s"),
+    ("Model", &[], "1v 7m 8m 25m"),
     ("OperatorSetId", &[IMPORT], "1s 2v"),
-    ("Node", &[GRAPH, NODE], "1s 2s 3s 4s 5m 7s"),
-    ("Attribute", &[GRAPH, NODE, ATTRIBUTE], "1s 2f 3v 4s 5m 6m 7f 7s 8v 8s 9s 10m 11m 14s 15s 20v 21s 22s 23s"),
+    ("Node", &[GRAPH, NODE], NODE_FIELDS),
+    ("Attribute", &[GRAPH, NODE, ATTRIBUTE], ATTRIBUTE_FIELDS),
     ("initializer", &[GRAPH, INITIALIZER], "2v 8s"),
     ("Tensor of an attribute", &[GRAPH, NODE, ATTRIBUTE, TENSOR], "2v 8s"),
     ("input", &[GRAPH, INPUT], "1s 2m"),
@@ -39,6 +46,12 @@ const MESSAGES: &[(&str, &[Step], &str)] = &[
     ("Type.Tensor", &[GRAPH, INPUT, TYPE, TYPE_TENSOR], "1v 2m"),
     ("Shape", &[GRAPH, OUTPUT, TYPE, TYPE_TENSOR, SHAPE], "1m"),
     ("Dimension", &[GRAPH, VALUE_INFO, TYPE, TYPE_TENSOR, SHAPE, DIM], "1v 2s"),
+    ("FunctionProto", &[FUNCTION], "1s 4s 5s 6s 7m 9m 10s 11m 13s"),
+    ("OperatorSetId of a function", &[FUNCTION, FUNCTION_IMPORT], "1s 2v"),
+    ("Node of a function", &[FUNCTION, FUNCTION_NODE], NODE_FIELDS),
+    ("Attribute in a function", &[FUNCTION, FUNCTION_NODE, ATTRIBUTE], ATTRIBUTE_FIELDS),
+    ("default of a function", &[FUNCTION, DEFAULT], ATTRIBUTE_FIELDS),
+    ("Tensor of a default", &[FUNCTION, DEFAULT, TENSOR], "2v 8s"),
 ];
 const GRAPH_FIELDS: &str = "1m 2s 5m 11m 12m 13m 15s";
 /// No message has a field 100; e is eight bytes.
@@ -51,17 +64,30 @@ pub fn positions() -> Vec<Row> {
     for (message, path, fields) in MESSAGES {
         rows.extend(in_message(message, path, fields));
     }
-    for depth in 1..=8 {
-        rows.extend(in_message(&format!("graph at depth {depth}"), &graph_at(depth), GRAPH_FIELDS));
+    for (within, depths, outermost) in GRAPHS {
+        for depth in *depths {
+            let name = format!("{within}graph at depth {depth}");
+            rows.extend(in_message(&name, &graph_at(*depth, *outermost), GRAPH_FIELDS));
+        }
+        rows.extend(at_depth_nine(within, *outermost));
     }
-    rows.extend(at_depth_nine());
     rows
 }
 
-/// The way to a graph at this depth, the main graph's being 1.
-fn graph_at(depth: usize) -> Vec<Step> {
-    let mut path = vec![GRAPH];
-    (1..depth).for_each(|_| path.extend([NODE, ATTRIBUTE, BODY]));
+/// An outermost graph: its depth and the way to it.
+type Outermost = (usize, &'static [Step]);
+
+/// Where graphs stand, and the depths of those that are tried.
+const GRAPHS: &[(&str, &[usize], Outermost)] = &[
+    ("", &[1, 2, 3, 4, 5, 6, 7, 8], (1, &[GRAPH])),
+    ("a function's ", &[2, 8], (2, &[FUNCTION, FUNCTION_NODE, ATTRIBUTE, BODY])),
+    ("a default's ", &[2, 8], (2, &[FUNCTION, DEFAULT, BODY])),
+];
+
+/// The way to a graph at this depth.
+fn graph_at(depth: usize, (from, way): Outermost) -> Vec<Step> {
+    let mut path = way.to_vec();
+    (from..depth).for_each(|_| path.extend([NODE, ATTRIBUTE, BODY]));
     path
 }
 
@@ -129,8 +155,8 @@ fn in_rooms(name: &str, path: &[Step], bytes: Vec<u8>) -> Vec<Row> {
 }
 
 /// What ends an attribute of a graph at depth 8: 9 comes before 6, and 6 before what is inside.
-fn at_depth_nine() -> Vec<Row> {
-    let path = [&graph_at(8)[..], &[NODE, ATTRIBUTE]].concat();
+fn at_depth_nine(within: &str, outermost: Outermost) -> Vec<Row> {
+    let path = [&graph_at(8, outermost)[..], &[NODE, ATTRIBUTE]].concat();
     let rows = [
         ("6", "32 00", 6),
         ("6 before 9 inside", "32 03 88 00 08", 6),
@@ -147,7 +173,7 @@ fn at_depth_nine() -> Vec<Row> {
         let length = last.len();
         let model = along(&path, last).build();
         let place = (model.len() - length) as u64;
-        row(&format!("at depth 9, {name}"), model, &L, 9, refused(number, place))
+        row(&format!("{within}graph at depth 9, {name}"), model, &L, 9, refused(number, place))
     };
     rows.map(ending).into()
 }

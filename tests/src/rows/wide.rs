@@ -2,7 +2,7 @@
 //! up to 2,097,151, and a message's likewise.
 
 use super::large::model;
-use super::{accepted, hex, refused, row, twice, with_odd, Row};
+use super::{accepted, hex, refused, row, twice, with_odd, Row, M0};
 use crate::checker::Verdict;
 use crate::models::lists::L;
 use crate::models::sparse::Sparse;
@@ -12,6 +12,7 @@ pub fn wide() -> Vec<Row> {
     rows.extend(DEFAULTS.iter().map(of_defaults));
     rows.extend(LENGTHS.iter().flat_map(|(length, place)| of_texts(*length, *place)));
     rows.extend((0..MANY).map(one_of_many));
+    rows.extend(FUNCTIONS.iter().flat_map(of_functions));
     rows.extend(the_programs());
     rows
 }
@@ -87,6 +88,30 @@ fn of_defaults((length, behind, place, first): &(usize, bool, u64, u64)) -> Row 
     let defaults = |graph: Sparse| graph.field(5, tensor(&name)).field(5, tensor(&name));
     let graph = if *behind { defaults(named().field(11, input())) } else { defaults(named()).field(11, input()) };
     row(&format!("two defaults of {length} bytes"), model(graph).build(), &L, 2, twice(*place, *first))
+}
+
+/// A length, and behind M0 the places of two fields with such names, in a function behind its name and import, and of the second of two
+/// functions with such a name.
+const FUNCTIONS: &[(usize, u64, u64, u64)] =
+    &[(127, 22, 151, 148), (128, 22, 153, 150), (16_383, 23, 16_409, 16_406), (16_384, 23, 16_411, 16_408)];
+
+fn of_functions((length, first, second, next): &(usize, u64, u64, u64)) -> Vec<Row> {
+    let name = || Sparse::new("n".repeat(*length));
+    let import = || hex("4A 02 10 0D");
+    let with_twice = |number: u32| {
+        let f = Sparse::new(hex("0A 01 66")).then(import()).field(number, name()).field(number, name());
+        Sparse::new(hex(M0)).field(25, f).build()
+    };
+    let named = |model: Sparse| model.field(25, Sparse::default().field(1, name()).then(import()));
+    let of =
+        |what: &str, model: Vec<u8>, answer: Verdict| row(&format!("{what} of {length} bytes"), model, &L, 2, answer);
+    vec![
+        of("two inputs of a function", with_twice(4), twice(*second, *first)),
+        of("two attributes of a function", with_twice(6), refused(42, *second)),
+        of("outputs of a function", with_twice(5), refused(35, *first)),
+        of("two functions with names", named(named(Sparse::new(hex(M0)))).build(), refused(41, *next)),
+        of("a function with a name", named(Sparse::new(hex(M0))).build(), accepted(0, 0)),
+    ]
 }
 
 const MANY: usize = 40;

@@ -115,12 +115,12 @@ fn extra_cells_of_use() {
     for (cells, lists, extra) in [(0, 0, 2), (1, 0, 4), (2, 0, 8), (2, 1, 10), (10, 4, 40), (10, 5, 42), (11, 5, 44)] {
         assert_eq!(linear(cells, lists), extra, "{cells} and {lists}");
     }
-    assert_eq!(MOST, 10 * (LARGEST_MODEL / 3));
+    assert_eq!(MOST, 10 * (LARGEST_MODEL / 3) + 2);
 }
 
 #[test]
 fn what_is_needed() {
-    let small = Need { names: SMALL / 3, free: 4096, ..Need::default() };
+    let small = Need { names: SMALL / 3, free: SMALL / 3, ..Need::default() };
     assert_eq!(need(&[0; SMALL], &list()), small);
     assert_eq!(need(&[0; SMALL + 1], &list()), Need::default());
     assert_eq!(need(&vec![0; LARGEST_MODEL + 1], &list()), Need::default());
@@ -155,6 +155,9 @@ fn hostile_counts() {
         ("attributes of many nodes", model(&part(1, ATTRIBUTE).repeat(many))),
         ("attributes before a fault of the wire", model(&[part(1, &ATTRIBUTE.repeat(many)), vec![0]].concat())),
         ("attributes without an import", part(7, &part(1, &ATTRIBUTE.repeat(many)))),
+        ("imports of a function", [model(b""), part(25, &b"\x4A\x05\x0A\x01d\x10\x01".repeat(many))].concat()),
+        ("functions of no bytes", [model(b""), part(25, b"").repeat(many)].concat()),
+        ("a function's attributes of no bytes", [model(b""), part(25, &b"\x32\x00".repeat(many))].concat()),
     ] {
         assert!(asked(&hostile) <= few, "{what}: {}", asked(&hostile));
         assert!(check(&hostile, &list()).is_err(), "{what}");
@@ -200,6 +203,30 @@ fn long_lists() {
     assert_eq!(check(&nested_defaults(count), &list()), Ok(Accepted { nodes: 1, names: count as u64, odd: 0 }));
     let twice = [nodes('v', count), nodes('w', 1)].concat();
     assert_eq!(check(&model(&twice), &list()).map_err(|r| r.number), Err(29));
+}
+
+/// So many functions, and one of them with so many attributes, to which a node refers one by one.
+fn functions(count: usize) -> Vec<u8> {
+    let name = |number, at: usize| part(number, format!("a{at:06x}").as_bytes());
+    let function = |at| part(25, &[&name(1, at)[..], b"\x4A\x02\x10\x0D"].concat());
+    let attributes: Vec<u8> = (0..count).flat_map(|at| name(6, at)).collect();
+    let reference = |at| part(5, &[&name(1, at)[..], b"\xA0\x01\x01", &name(21, at)].concat());
+    let node = [&b"\x12\x01y\x22\x01X"[..], &(0..count).flat_map(reference).collect::<Vec<u8>>()].concat();
+    let last = [&b"\x0A\x01f\x4A\x02\x10\x0D"[..], &attributes, &part(7, &node)].concat();
+    [model(b""), (0..count).flat_map(function).collect(), part(25, &last)].concat()
+}
+
+/// 41, 42 and 33 find names as quickly as the others do, and name for name.
+#[test]
+fn long_lists_of_functions() {
+    let count = SHORT + 1_000;
+    let model = functions(count);
+    let found = need(&model, &list());
+    assert_eq!((found.names, found.bound, found.free), (1, 0, 1 + 3 * count));
+    assert_eq!(check(&model, &list()), Ok(Accepted { nodes: 1, names: 1, odd: 0 }));
+    let again = part(25, b"\x0A\x07a000000\x4A\x02\x10\x0D");
+    let expected = Err(Refusal { number: 41, place: model.len(), first: None });
+    assert_eq!(check(&[&model[..], &again].concat(), &list()), expected);
 }
 
 /// All tries together have at most three times the cells of the last.

@@ -95,10 +95,71 @@ fn initializers_of_nested_graphs() {
     }
 }
 
+/// A function of the model with the fields given.
+fn function(fields: &[Vec<u8>]) -> Vec<u8> {
+    field_of(25, &fields.concat())
+}
+
+/// A named node of a function.
+fn node_of_function(attributes: &[u8], output: &[u8]) -> Vec<u8> {
+    let mut node = node(attributes, output);
+    node[0] = 7 << 3 | 2;
+    node
+}
+
+/// Of a function its name, attributes and imports, wherever they stand; but nothing in a default.
+#[test]
+fn lists_of_a_function() {
+    let name = field_of(1, b"f");
+    let nodes = [node_of_function(&field_of(5, ATTRIBUTE).repeat(3), b"a"), node_of_function(&[], b"b")].concat();
+    let attributes = [field_of(6, b"k"), field_of(6, b""), field_of(11, ATTRIBUTE), field_of(11, b"")].concat();
+    let imports = [field_of(9, IMPORT), field_of(9, IMPORT), field_of(9, b"\x10\x01")].concat();
+    let values = [field_of(4, b"i"), field_of(4, b""), field_of(5, b"a")].concat();
+    let parts = [name, nodes, attributes, imports, values];
+    let expected = Need { own_imports: 2, ..need(3, 2, 1 + 2 + 3) };
+    assert_eq!(skim(&function(&parts)), expected);
+    let reversed: Vec<Vec<u8>> = parts.into_iter().rev().collect();
+    assert_eq!(skim(&function(&reversed)), expected);
+    let default = field_of(11, &field_of(6, &graph(ATTRIBUTE)));
+    assert_eq!(skim(&function(&[default])), need(0, 0, 2));
+    let short = function(&[field_of(1, b"f")]);
+    assert_eq!(skim(&short.repeat(9)), need(0, 0, 0), "refused for what they lack");
+}
+
+/// The main graph and the functions begin with no names, and with no lists but those of the model: imports and, for a
+/// function, the functions up to it.
+#[test]
+fn functions_one_by_one() {
+    let body = |names, attributes| [field_of(4, b"i").repeat(names), field_of(6, b"k").repeat(attributes)];
+    let few = function(&body(2, 3));
+    assert_eq!(skim(&few), need(2, 0, 4));
+    assert_eq!(skim(&few.repeat(5)), need(2, 0, 8));
+    assert_eq!(skim(&[function(&body(1, 9)), few.repeat(5)].concat()), need(2, 0, 10));
+    let imports = function(&[field_of(9, IMPORT).repeat(4)]);
+    let model = [field_of(8, IMPORT), imports, function(&[field_of(9, IMPORT)]), field_of(8, IMPORT)].concat();
+    assert_eq!(skim(&model), Need { imports: 2, own_imports: 4, ..need(0, 0, 2) });
+    let main = field_of(7, &graph(&[&field_of(6, &graph(ATTRIBUTE)), ATTRIBUTE].concat()));
+    for model in [[&main[..], &few].concat(), [&few[..], &main].concat()] {
+        assert_eq!(skim(&model), need(8, 1, 4));
+    }
+}
+
+/// A function is at depth 1, as the main graph is.
+#[test]
+fn graphs_in_functions() {
+    let mut inner = graph(ATTRIBUTE);
+    for depth in 2..=20 {
+        let holder = field_of(5, &[&field_of(6, &inner), ATTRIBUTE].concat());
+        let found = skim(&function(&[node_of_function(&holder, b"y")]));
+        assert_eq!(found, need(1 + 4 * (depth - 1).min(7), 1, 2), "depth {depth}");
+        inner = graph(&[&field_of(6, &inner), ATTRIBUTE].concat());
+    }
+}
+
 #[test]
 fn what_names_bound() {
-    let need = Need { names: 9, imports: 2, bound: 50, free: 300 };
-    assert_eq!((need.lists(0), need.lists(7), need.lists(1000)), (302, 309, 352));
+    let need = Need { names: 9, imports: 2, own_imports: 3, bound: 50, free: 300 };
+    assert_eq!((need.lists(0), need.lists(7), need.lists(1000)), (305, 312, 355));
 }
 
 #[test]

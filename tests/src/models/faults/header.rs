@@ -1,4 +1,4 @@
-//! Faults of the header: 10 to 15.
+//! Faults of the header, 10 to 14; those of imports fall on functions too.
 
 use super::Fault;
 use crate::models::lists::{alias, one_in_a_byte};
@@ -35,13 +35,12 @@ pub const FAULTS: &[Fault] = &[
     Fault { name: "no ir_version", aims: 10, apply: |t, _| remove(t, 1) },
     Fault { name: "no graph", aims: 11, apply: |t, _| remove(t, 7) },
     Fault { name: "no import", aims: 12, apply: |t, _| remove(t, 8) },
-    Fault { name: "a domain imported twice", aims: 13, apply: import_twice },
-    Fault { name: "a version next to the list's", aims: 14, apply: version_beside },
-    Fault { name: "a version of which one byte is another", aims: 14, apply: version_byte },
-    Fault { name: "an edge as version", aims: 14, apply: version_edge },
-    Fault { name: "no version", aims: 14, apply: no_version },
-    Fault { name: "a domain that the list lacks", aims: 14, apply: strange_domain },
-    Fault { name: "functions", aims: 15, apply: functions },
+    Fault { name: "a domain imported twice", aims: 13, apply: |t, r| import_twice(t, r, 8) },
+    Fault { name: "a version next to the list's", aims: 14, apply: |t, r| version_beside(t, r, 8) },
+    Fault { name: "a version of which one byte is another", aims: 14, apply: |t, r| version_byte(t, r, 8) },
+    Fault { name: "an edge as version", aims: 14, apply: |t, r| version_edge(t, r, 8) },
+    Fault { name: "no version", aims: 14, apply: |t, r| no_version(t, r, 8) },
+    Fault { name: "a domain that the list lacks", aims: 14, apply: |t, r| strange_domain(t, r, 8) },
 ];
 
 fn set(tree: &mut Tree, number: u32, value: u64) -> bool {
@@ -54,15 +53,16 @@ fn remove(tree: &mut Tree, number: u32) -> bool {
     true
 }
 
-fn some_import<'t>(tree: &'t mut Tree, rng: &mut Rng) -> Option<&'t mut Tree> {
-    let count = tree.children(8).count();
+/// Some import in the field `number` of the model or of a function.
+fn some_import<'t>(tree: &'t mut Tree, rng: &mut Rng, number: u32) -> Option<&'t mut Tree> {
+    let count = tree.children(number).count();
     let at = rng.below(count);
-    tree.children_mut(8).nth(at)
+    tree.children_mut(number).nth(at)
 }
 
 /// Once more the same domain, as it is or by the default domain's other name.
-fn import_twice(tree: &mut Tree, rng: &mut Rng) -> bool {
-    let Some(import) = some_import(tree, rng) else {
+pub(super) fn import_twice(tree: &mut Tree, rng: &mut Rng, number: u32) -> bool {
+    let Some(import) = some_import(tree, rng, number) else {
         return false;
     };
     let mut twin = import.clone();
@@ -73,23 +73,23 @@ fn import_twice(tree: &mut Tree, rng: &mut Rng) -> bool {
     if rng.chance(1, 4) {
         twin.set(2, Value::Varint(0));
     }
-    tree.insert(rng, Item::new(8, Value::Tree(twin)));
+    tree.insert(rng, Item::new(number, Value::Tree(twin)));
     true
 }
 
-fn version_beside(tree: &mut Tree, rng: &mut Rng) -> bool {
+pub(super) fn version_beside(tree: &mut Tree, rng: &mut Rng, number: u32) -> bool {
     let step = *rng.pick(&[1, 30, u64::MAX, 1 << 32]);
-    step_version(tree, rng, step)
+    step_version(tree, rng, number, step)
 }
 
-fn version_byte(tree: &mut Tree, rng: &mut Rng) -> bool {
+pub(super) fn version_byte(tree: &mut Tree, rng: &mut Rng, number: u32) -> bool {
     let step = u64::from(one_in_a_byte(rng));
     let step = if rng.chance(1, 2) { step } else { step.wrapping_neg() };
-    step_version(tree, rng, step)
+    step_version(tree, rng, number, step)
 }
 
-fn step_version(tree: &mut Tree, rng: &mut Rng, step: u64) -> bool {
-    let Some(import) = some_import(tree, rng) else {
+fn step_version(tree: &mut Tree, rng: &mut Rng, number: u32, step: u64) -> bool {
+    let Some(import) = some_import(tree, rng, number) else {
         return false;
     };
     for item in &mut import.items {
@@ -100,27 +100,18 @@ fn step_version(tree: &mut Tree, rng: &mut Rng, step: u64) -> bool {
     true
 }
 
-fn version_edge(tree: &mut Tree, rng: &mut Rng) -> bool {
+fn version_edge(tree: &mut Tree, rng: &mut Rng, number: u32) -> bool {
     let edge = *rng.pick(&EDGES);
-    some_import(tree, rng).is_some_and(|import| set(import, 2, edge))
+    some_import(tree, rng, number).is_some_and(|import| set(import, 2, edge))
 }
 
-fn no_version(tree: &mut Tree, rng: &mut Rng) -> bool {
-    some_import(tree, rng).is_some_and(|import| remove(import, 2))
+pub(super) fn no_version(tree: &mut Tree, rng: &mut Rng, number: u32) -> bool {
+    some_import(tree, rng, number).is_some_and(|import| remove(import, 2))
 }
 
-fn strange_domain(tree: &mut Tree, rng: &mut Rng) -> bool {
+pub(super) fn strange_domain(tree: &mut Tree, rng: &mut Rng, number: u32) -> bool {
     let domain: &[u8] = rng.pick::<&[u8]>(&[b"ai", b"ai.onnx2", b"ai.onnxx", b"\x00", b"com"]);
     let import = Tree::new(Message::OperatorSetId).text(1, domain).number(2, 7);
-    tree.insert(rng, Item::new(8, Value::Tree(import)));
-    true
-}
-
-fn functions(tree: &mut Tree, rng: &mut Rng) -> bool {
-    for _ in 0..1 + rng.below(2) {
-        let count = rng.below(4);
-        let bytes = rng.bytes(count);
-        tree.insert(rng, Item::new(25, Value::Bytes(bytes)));
-    }
+    tree.insert(rng, Item::new(number, Value::Tree(import)));
     true
 }

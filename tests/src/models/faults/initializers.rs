@@ -155,7 +155,7 @@ mod tests {
     use crate::models;
     use crate::wire::{fields, Field, BYTES};
 
-    /// The depth of the innermost graph around a place.
+    /// The depth of the innermost graph around a place, 0 in a function.
     fn depth_of(model: &[u8], place: usize) -> usize {
         let whole = Field { place: 0, number: 0, kind: BYTES, value: 0, start: 0, end: model.len() };
         let inside = |field: Field, numbers: &[u32]| {

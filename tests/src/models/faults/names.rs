@@ -1,6 +1,6 @@
 //! Faults of value names: 23, 30, 35, and the shortcuts that document 01 warns of.
 
-use super::{main_graph, plain_node, some_domain, some_message, some_part, Fault};
+use super::{main_graph, node_count, nodes_of, plain_node, some_domain, some_message, some_node, Fault};
 use crate::models::names::some_name;
 use crate::models::proto::{Item, Tree, Value};
 use crate::models::valid::good_type;
@@ -12,7 +12,7 @@ pub const FAULTS: &[Fault] = &[
     Fault { name: "an initializer twice", aims: 23, apply: |t, r| same_again(t, r, 5) },
     Fault { name: "a default or two", aims: 23, apply: defaults },
     Fault { name: "an initializer that bears an input's name", aims: 23, apply: initializer_of_input },
-    Fault { name: "a node twice", aims: 23, apply: |t, r| same_again(t, r, 1) },
+    Fault { name: "a node twice", aims: 23, apply: node_again },
     Fault { name: "a node output that is visible", aims: 23, apply: output_again },
     Fault { name: "a body that binds an outer name", aims: 23, apply: outer_name_in_body },
     Fault { name: "a body that binds its node's output", aims: 0, apply: |t, r| body_and_node(t, r, false) },
@@ -33,16 +33,26 @@ fn same_again(tree: &mut Tree, rng: &mut Rng, number: u32) -> bool {
     let Some(graph) = tree.pick_mut(rng, &wanted) else {
         return false;
     };
-    let Some(mut twin) = graph.items.iter().find(|item| item.number == number).cloned() else {
+    let Some(twin) = graph.items.iter().find(|item| item.number == number).cloned() else {
         return false;
     };
-    if let Value::Tree(twin) = &mut twin.value {
-        // A node's own name would be refused before its outputs.
-        if twin.message == Message::Node {
-            twin.remove(3);
-        }
-    }
     graph.insert(rng, twin);
+    true
+}
+
+/// A node of a graph or a function once more, without its own name, which would be refused before its outputs.
+fn node_again(tree: &mut Tree, rng: &mut Rng) -> bool {
+    let Some(holder) = tree.pick_mut(rng, &|tree| node_count(tree) > 0) else {
+        return false;
+    };
+    let Some(number) = nodes_of(holder) else {
+        return false;
+    };
+    let Some(mut twin) = holder.children(number).next().cloned() else {
+        return false;
+    };
+    twin.remove(3);
+    holder.insert(rng, Item::new(number, Value::Tree(twin)));
     true
 }
 
@@ -105,7 +115,7 @@ fn some_name_of(tree: &mut Tree, rng: &mut Rng) -> Vec<u8> {
 
 fn output_again(tree: &mut Tree, rng: &mut Rng) -> bool {
     let name = some_name_of(tree, rng);
-    let Some(node) = some_part(tree, rng, 1) else {
+    let Some(node) = some_node(tree, rng) else {
         return false;
     };
     node.insert(rng, Item::new(2, Value::Bytes(name)));
@@ -181,7 +191,7 @@ fn body_name_outside(tree: &mut Tree, rng: &mut Rng) -> bool {
     let Some(name) = body_name(tree, rng) else {
         return false;
     };
-    let Some(node) = some_part(tree, rng, 1) else {
+    let Some(node) = some_node(tree, rng) else {
         return false;
     };
     node.insert(rng, Item::new(1, Value::Bytes(name)));
@@ -189,7 +199,7 @@ fn body_name_outside(tree: &mut Tree, rng: &mut Rng) -> bool {
 }
 
 fn self_reader(tree: &mut Tree, rng: &mut Rng) -> bool {
-    let Some(node) = some_part(tree, rng, 1) else {
+    let Some(node) = some_node(tree, rng) else {
         return false;
     };
     let Some(name) = node.all_bytes(2).pop() else {
@@ -201,7 +211,7 @@ fn self_reader(tree: &mut Tree, rng: &mut Rng) -> bool {
 
 fn strange_input(tree: &mut Tree, rng: &mut Rng) -> bool {
     let name = if rng.chance(1, 2) { some_name(rng) } else { some_name_of(tree, rng) };
-    let Some(node) = some_part(tree, rng, 1) else {
+    let Some(node) = some_node(tree, rng) else {
         return false;
     };
     node.insert(rng, Item::new(1, Value::Bytes(name)));
@@ -209,13 +219,14 @@ fn strange_input(tree: &mut Tree, rng: &mut Rng) -> bool {
 }
 
 fn exchange(tree: &mut Tree, rng: &mut Rng) -> bool {
-    let wanted = |tree: &Tree| tree.message == Message::Graph && tree.children(1).count() >= 2;
-    let Some(graph) = tree.pick_mut(rng, &wanted) else {
+    let Some(holder) = tree.pick_mut(rng, &|tree| node_count(tree) >= 2) else {
         return false;
     };
-    let places: Vec<usize> = (0..graph.items.len()).filter(|&place| graph.items[place].number == 1).collect();
+    let number = nodes_of(holder);
+    let is_node = |place: &usize| Some(holder.items[*place].number) == number;
+    let places: Vec<usize> = (0..holder.items.len()).filter(is_node).collect();
     let (one, other) = (*rng.pick(&places), *rng.pick(&places));
-    graph.items.swap(one, other);
+    holder.items.swap(one, other);
     true
 }
 
@@ -227,7 +238,7 @@ fn near_name(tree: &mut Tree, rng: &mut Rng) -> bool {
     } else {
         name.push(b'1');
     }
-    let Some(node) = some_part(tree, rng, 1) else {
+    let Some(node) = some_node(tree, rng) else {
         return false;
     };
     node.insert(rng, Item::new(1, Value::Bytes(name)));

@@ -1,6 +1,6 @@
 //! Faults of graphs, nodes, attributes and types, all but those of value names: 16, 20 to 22, 24 to 29, 31 to 34, 37, 38.
 
-use super::{empty, some_main_info, some_main_tensor, some_message, some_part, Fault};
+use super::{empty, node_count, nodes_of, some_main_info, some_main_tensor, some_message, some_node, some_part, Fault};
 use crate::models::names::malformed;
 use crate::models::proto::{Item, Tree, Value};
 use crate::models::valid::good_type;
@@ -14,10 +14,10 @@ pub const FAULTS: &[Fault] = &[
     Fault { name: "a bad graph name", aims: 21, apply: |t, r| of(some_message(t, r, Message::Graph)).bad(r, 2) },
     Fault { name: "a bad input name", aims: 21, apply: |t, r| of(some_part(t, r, 11)).bad(r, 1) },
     Fault { name: "a bad initializer name", aims: 21, apply: |t, r| of(some_part(t, r, 5)).bad(r, 8) },
-    Fault { name: "a bad op_type", aims: 21, apply: |t, r| of(some_part(t, r, 1)).bad(r, 4) },
-    Fault { name: "a bad node name", aims: 21, apply: |t, r| of(some_part(t, r, 1)).bad(r, 3) },
-    Fault { name: "a bad node input", aims: 21, apply: |t, r| of(some_part(t, r, 1)).bad_one_more(r, 1) },
-    Fault { name: "a bad node output", aims: 21, apply: |t, r| of(some_part(t, r, 1)).bad_one_more(r, 2) },
+    Fault { name: "a bad op_type", aims: 21, apply: |t, r| of(some_node(t, r)).bad(r, 4) },
+    Fault { name: "a bad node name", aims: 21, apply: |t, r| of(some_node(t, r)).bad(r, 3) },
+    Fault { name: "a bad node input", aims: 21, apply: |t, r| of(some_node(t, r)).bad_one_more(r, 1) },
+    Fault { name: "a bad node output", aims: 21, apply: |t, r| of(some_node(t, r)).bad_one_more(r, 2) },
     Fault {
         name: "a bad attribute name",
         aims: 21,
@@ -39,7 +39,7 @@ pub const FAULTS: &[Fault] = &[
     Fault { name: "no elem_type", aims: 25, apply: |t, r| of(some_main_tensor(t, r)).without(1) },
     Fault { name: "data_type at an edge", aims: 26, apply: |t, r| of(some_part(t, r, 5)).edge(r, 2) },
     Fault { name: "no data_type", aims: 26, apply: |t, r| of(some_part(t, r, 5)).without(2) },
-    Fault { name: "no op_type", aims: 27, apply: |t, r| of(some_part(t, r, 1)).empty(r, 4) },
+    Fault { name: "no op_type", aims: 27, apply: |t, r| of(some_node(t, r)).empty(r, 4) },
     Fault { name: "a domain not imported", aims: 28, apply: strange_domain },
     Fault { name: "a node name twice", aims: 29, apply: node_name_twice },
     Fault { name: "an attribute name twice", aims: 31, apply: attribute_twice },
@@ -52,28 +52,28 @@ pub const FAULTS: &[Fault] = &[
     Fault { name: "another carrier", aims: 32, apply: another_carrier },
     Fault { name: "no carrier", aims: 32, apply: no_carrier },
     Fault { name: "ref_attr_name", aims: 33, apply: reference },
-    Fault { name: "a node without outputs", aims: 34, apply: |t, r| of(some_part(t, r, 1)).without(2) },
+    Fault { name: "a node without outputs", aims: 34, apply: |t, r| of(some_node(t, r)).without(2) },
     Fault { name: "no shape", aims: 37, apply: |t, r| of(some_main_tensor(t, r)).without(2) },
     Fault { name: "a negative dim_value", aims: 38, apply: negative_dim },
 ];
 
 /// A part of the model that a fault falls on, if there is one.
-struct Part<'t>(Option<&'t mut Tree>);
+pub(super) struct Part<'t>(Option<&'t mut Tree>);
 
-fn of(tree: Option<&mut Tree>) -> Part<'_> {
+pub(super) fn of(tree: Option<&mut Tree>) -> Part<'_> {
     Part(tree)
 }
 
 impl Part<'_> {
-    fn empty(self, rng: &mut Rng, number: u32) -> bool {
+    pub(super) fn empty(self, rng: &mut Rng, number: u32) -> bool {
         self.0.is_some_and(|tree| empty(tree, rng, number))
     }
 
-    fn bad(self, rng: &mut Rng, number: u32) -> bool {
+    pub(super) fn bad(self, rng: &mut Rng, number: u32) -> bool {
         self.set(number, Value::Bytes(malformed(rng)))
     }
 
-    fn bad_one_more(self, rng: &mut Rng, number: u32) -> bool {
+    pub(super) fn bad_one_more(self, rng: &mut Rng, number: u32) -> bool {
         let Some(tree) = self.0 else {
             return false;
         };
@@ -82,18 +82,18 @@ impl Part<'_> {
         true
     }
 
-    fn edge(self, rng: &mut Rng, number: u32) -> bool {
+    pub(super) fn edge(self, rng: &mut Rng, number: u32) -> bool {
         self.set(number, Value::Varint(*rng.pick(&EDGES)))
     }
 
-    fn set(self, number: u32, value: Value) -> bool {
+    pub(super) fn set(self, number: u32, value: Value) -> bool {
         self.0.is_some_and(|tree| {
             tree.set(number, value);
             true
         })
     }
 
-    fn without(self, number: u32) -> bool {
+    pub(super) fn without(self, number: u32) -> bool {
         self.0.is_some_and(|tree| {
             tree.remove(number);
             true
@@ -153,7 +153,7 @@ fn no_tensor(tree: &mut Tree, rng: &mut Rng) -> bool {
 fn strange_domain(tree: &mut Tree, rng: &mut Rng) -> bool {
     let domain: &[u8] = rng.pick::<&[u8]>(&[b"", b"ai.onnx", b"ai.onnx2", b"ai", b"com.x", b"com.xyz", b"nobody"]);
     let remove = rng.chance(1, 4);
-    let Some(node) = some_part(tree, rng, 1) else {
+    let Some(node) = some_node(tree, rng) else {
         return false;
     };
     if remove {
@@ -164,20 +164,22 @@ fn strange_domain(tree: &mut Tree, rng: &mut Rng) -> bool {
     true
 }
 
-/// Two nodes bear one name: of one graph, which is refused, or of a graph and a body, which passes.
+/// Two nodes bear one name: of one graph or function, which is refused, or of one and a body in it, which passes.
 fn node_name_twice(tree: &mut Tree, rng: &mut Rng) -> bool {
     let apart = rng.chance(1, 4);
-    let wanted = |tree: &Tree| tree.message == Message::Graph && tree.children(1).count() >= 2;
-    let Some(graph) = tree.pick_mut(rng, &wanted) else {
+    let Some(holder) = tree.pick_mut(rng, &|tree| node_count(tree) >= 2) else {
+        return false;
+    };
+    let Some(number) = nodes_of(holder) else {
         return false;
     };
     if apart {
-        graph.children_mut(1).for_each(|node| node.remove(3));
-        graph.children_mut(1).take(1).for_each(|node| node.push(3, Value::Bytes(b"same".to_vec())));
-        let inner = some_message(graph, rng, Message::Node);
+        holder.children_mut(number).for_each(|node| node.remove(3));
+        holder.children_mut(number).take(1).for_each(|node| node.push(3, Value::Bytes(b"same".to_vec())));
+        let inner = some_message(holder, rng, Message::Node);
         return of(inner).set(3, Value::Bytes(b"same".to_vec()));
     }
-    graph.children_mut(1).for_each(|node| node.set(3, Value::Bytes(b"same".to_vec())));
+    holder.children_mut(number).for_each(|node| node.set(3, Value::Bytes(b"same".to_vec())));
     true
 }
 

@@ -231,7 +231,8 @@ pub(super) fn nest(tree: &mut Tree, rng: &mut Rng, count: usize, spoil: Spoil) -
     true
 }
 
-fn deep(domain: Option<Vec<u8>>, rng: &mut Rng, count: usize, spoil: Spoil, carrier: u32) -> Tree {
+/// An attribute with so many graphs in each other, the innermost spoiled.
+pub(super) fn deep(domain: Option<Vec<u8>>, rng: &mut Rng, count: usize, spoil: Spoil, carrier: u32) -> Tree {
     let mut graph = Tree::new(Message::Graph).text(2, b"g");
     if count > 1 {
         let inner_carrier = *rng.pick(&[6, 11]);

@@ -6,7 +6,7 @@ use Rattle.headers.proofs.headers.unheaded.Tie as tie
 
 returns : tie.Need-returns
 unfolding rulingSays rulingOf holds
-returns c = (refl, λ m s l. tt)
+returns c = (refl, λ model n m seed top lists. tt)
 
 pub unheaded-spec : {M : Type 1} → statement M
 unheaded-spec =

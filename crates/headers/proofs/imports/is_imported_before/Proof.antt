@@ -1,11 +1,11 @@
 use Prim.Native.Nat.{_-_}
-use mathlib.Core.Path.{ap, _∙_}
-use lib.ListN.{length}
+use mathlib.Core.Path.{refl, _∙_}
+use mathlib.Core.List.{map}
 use Rattle.varint.specs.Bytes.{member}
-use Rattle.wire.specs.Answers.{contentsOf}
 use Rattle.operators.specs.Operators.{domain}
-use Rattle.schema.specs.Numbers.{Model·opset-import}
-use Rattle.headers.specs.Imports.{importOf, importsBefore}
+use Rattle.wire.proofs.Along.{allFrom}
+use Rattle.headers.specs.Earlier.{before}
+use Rattle.headers.specs.Imports.{importOf}
 use Rattle.headers.proofs.EarlierLaws.{Rereading, reread-done, reread-past, reread-here, reread-next, reread-falls}
 use Rattle.headers.proofs.ImportLaws.{imports-again, same-import}
 use borrow.Author.Needs.{needs}
@@ -13,26 +13,28 @@ use Rattle.headers.proofs.imports.is_imported_before.Statement.{stateme
 use Rattle.headers.proofs.imports.is_imported_before.Tie as tie
 
 abbrev Inv-loop : tie.InvT-loop
-Inv-loop model place d c₀ c = Rereading model Model·opset-import (length model) (importOf model) place (domain d) (member (domain d) (importsBefore model place)) c
+Inv-loop model number place d c₀ c =
+    Rereading model number (c₀ .end) (importOf model) place (domain d)
+    (member (domain d) (map (importOf model) (before place (allFrom model number (c₀ .end) (c₀ .at))))) c
 
 abbrev μ-loop : tie.MeasureT-loop
-μ-loop model place d c₀ c = length model - c .at
+μ-loop model number place d c₀ c = c₀ .end - c .at
 
 loop-holds : tie.Need-loop-holds Inv-loop μ-loop
-loop-holds c = rw (c .contents .ensures ∙ ap contentsOf (c .before .whole .ensures)) (imports-again _ _ _)
+loop-holds c = record { ends = refl; rest = refl }
 
 returns : tie.Need-returns Inv-loop μ-loop
 returns c =
     let c2 = c .before .before in
     let loop = c2 .before in
-    reread-done (loop .loop .inv) (c2 .next-of .ensures) (c .enum-told .given .1)
+    reread-done (loop .loop .inv) (c2 .next-of .ensures) (c .enum-told .given .1) ∙ imports-again _ _ _ _ _ (loop .before .contents .ensures)
 
 returns-2 : tie.Need-returns-2 Inv-loop μ-loop
 returns-2 c =
     let c3 = c .before .before .before in
     let c5 = c3 .before .before in
     let loop = c5 .before in
-    reread-past (loop .loop .inv) (c5 .next-of .ensures) (c3 .sought .given .1) (c .if1 .taken)
+    reread-past (loop .loop .inv) (c5 .next-of .ensures) (c3 .sought .given .1) (c .if1 .taken) ∙ imports-again _ _ _ _ _ (loop .before .contents .ensures)
 
 returns-3 : tie.Need-returns-3 Inv-loop μ-loop
 returns-3 c =
@@ -44,6 +46,7 @@ returns-3 c =
     let loop = c8 .before in
     reread-here (loop .loop .inv) (c8 .next-of .ensures) (c6 .sought .given .1) (c3 .if1 .left)
     (same-import _ _ _ (c2 .bytes-of .ensures) (c1 .same-domain .ensures)) (c .if2 .taken)
+    ∙ imports-again _ _ _ _ _ (loop .before .contents .ensures)
 
 loop-less : tie.Need-loop-less Inv-loop μ-loop
 loop-less c =
@@ -69,7 +72,6 @@ is-imported-before-spec =
     (tie.spec
     Inv-loop
     μ-loop
-    (λ c κs. search needs)
     (λ c κs. search needs)
     loop-holds
     (λ c κs. search needs)

@@ -1,7 +1,6 @@
 use Rattle.headers.proofs.HeaderLaws.{headed-same, headed-holds}
 use Prim.Native.Nat.{_-_}
 use mathlib.Core.Path.{ap, _∙_}
-use lib.ListN.{length}
 use Rattle.values.specs.Answers.{rulingSays}
 use Rattle.headers.specs.Imported.{rulingOf, headed, holds}
 use Rattle.headers.proofs.ImportLaws.{import-falls, importing-end, importing-stops, Keeping, keeping-start, keeping-end, keeping-before, keeping-goes}
@@ -10,15 +9,15 @@ use Rattle.headers.proofs.imports.opset_imports.Statement.{statement}
 use Rattle.headers.proofs.imports.opset_imports.Tie as tie
 
 abbrev Inv-loop : tie.InvT-loop
-Inv-loop model list lists₀ seed at c₀ imports₀ lists c imports = Keeping model list seed lists₀ lists imports c
+Inv-loop model list lists₀ seed top m number at c₀ imports₀ lists c imports = Keeping model list number m seed top lists₀ lists imports c
 
 abbrev μ-loop : tie.MeasureT-loop
-μ-loop model list lists₀ seed at c₀ imports₀ lists c imports = length model - c .at
+μ-loop model list lists₀ seed top m number at c₀ imports₀ lists c imports = m .next - c .at
 
 loop-holds : tie.Need-loop-holds Inv-loop μ-loop
 loop-holds c =
     let entry = c .before .before .before in
-    keeping-start _ _ _ (entry .pre .0) (entry .pre .1 .0)
+    keeping-start _ _ _ _ _ _ (entry .pre .0) (entry .pre .1 .0) (entry .pre .1 .1 .0)
 
 returns : tie.Need-returns Inv-loop μ-loop
 unfolding rulingSays rulingOf holds
@@ -26,7 +25,7 @@ returns c =
     let c2 = c .before .before in
     let loop = c2 .before in (
       importing-end (loop .loop .inv .importing) (c2 .next-of .ensures) (c .enum-told .given .1),
-      (keeping-end (loop .loop .inv) (c2 .next-of .ensures) (c .enum-told .given .1), loop .loop .inv .held),
+      ((keeping-end (loop .loop .inv) (c2 .next-of .ensures) (c .enum-told .given .1), loop .loop .inv .above), loop .loop .inv .held),
     )
 
 opset-import-requires : tie.Need-opset-import-requires Inv-loop μ-loop
@@ -45,21 +44,22 @@ returns-2 c =
     let loop = c8 .before in (
       ap rulingSays (headed-same _ _ (c .headed .ensures)) ∙ importing-stops (loop .loop .inv .importing) (c8 .next-of .ensures) (c6 .sought .given .1) _
           (c3 .opset-import .ensures) (c1 .enum-told3 .given .1),
-      (headed-holds _ _ (c .headed .ensures) (c1 .enum-told3 .given .1) _ _ _, loop .loop .inv .held),
+      (headed-holds _ _ (c .headed .ensures) (c1 .enum-told3 .given .1) _ _ _ _ _ _, loop .loop .inv .held),
     )
 
 list-import-requires : tie.Need-list-import-requires Inv-loop μ-loop
 list-import-requires c κs =
     let loop = c .before .before .before .before .before .before .before .before .before in
     let entry = loop .before .before .before .before in
-    (loop .loop .inv .imported .listed .index, (loop .loop .inv .imported .listed .fits, entry .pre .1 .1))
+    (loop .loop .inv .imported .listed .index, (loop .loop .inv .imported .listed .fits, entry .pre .1 .1 .1))
 
 loop-less : tie.Need-loop-less Inv-loop μ-loop
 loop-less c =
     let c9 = c .before .before .before .before .before .before .before .before .before in
     let c11 = c9 .before .before in
     let loop = c11 .before in
-    import-falls _ _ (loop .loop .inv .importing .ends) (c11 .next-of .ensures) (c9 .sought .given .1)
+    let entry = loop .before .before .before .before in
+    import-falls _ _ (entry .args .m) _ (loop .loop .inv .importing .ends) (c11 .next-of .ensures) (c9 .sought .given .1)
 
 loop-again : tie.Need-loop-again Inv-loop μ-loop
 loop-again c =

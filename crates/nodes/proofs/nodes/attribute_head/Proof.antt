@@ -5,7 +5,7 @@ use Rattle.nodes.proofs.nodes.attribute_head.Tie as tie
 
 attribute-rules-requires : tie.Need-attribute-rules-requires
 attribute-rules-requires c κs =
-    let entry = c .before .before .before in
+    let entry = c .before .before .before .before in
     rw (others-lent _ _) (entry .pre .1)
 
 pub attribute-head-spec : {M : Type 1} → statement M

@@ -10,13 +10,14 @@ use Rattle.wire.specs.Answers.{contentsOf}
 use Rattle.wire.proofs.Along.{allFrom}
 use Rattle.rules.specs.Node.{body}
 use Rattle.rules.specs.Count.{namesIn}
+use Rattle.messages.specs.Around.{importsOf, attributesOf}
 use Rattle.scope.specs.Scope.{walkIn}
 use Rattle.scope.specs.Recall.{Minds, Minded}
 use Rattle.scope.proofs.RecallLaws.{minded-none, minded-then, minds-still}
 use Rattle.schema.proofs.Opened.{attribute-body}
 use Rattle.cycle.proofs.CycleLaws.{Going, enters-low, own-contents, going-start, going-falls, going-enters, going-shorter, going-countable}
 use Rattle.cycle.proofs.PromiseLaws.{promised-and, enters-first}
-use Rattle.cycle.proofs.AttributeLaws.{Nested, inner-judged, inner-countable, attribute-fits, attribute-stops, attribute-first, attribute-plain, bodies-countable}
+use Rattle.cycle.proofs.AttributeLaws.{Nested, inner-judged, inner-countable, inner-minds, inner-nodes, attribute-fits, attribute-stops, attribute-first, attribute-plain, bodies-countable}
 use Rattle.cycle.proofs.AttributeLaws.{bodies-done, bodies-stop, bodies-go}
 use Rattle.cycle.proofs.graphs.attribute.Reads as attribute
 use Rattle.cycle.proofs.graphs.+attribute+graph+node.Lts-attribute as attribute-lts
@@ -60,7 +61,7 @@ abbrev pub attribute-Inv-loop : attribute-lts.InvT-loop
 attribute-Inv-loop model cells₀ extra₀ ix l left s number c₀ q₀ cells extra c q =
     Going model number (c₀ .end) (c₀ .at) (namesIn model left false) (λ size. body (Nested model left s size))
     (each (body (Nested model left s (length cells₀))) (walkIn model cells₀ q₀) (allFrom model number (c₀ .end) (c₀ .at))) cells₀ q₀ cells q c
-    × Minds model ix (l .top) cells extra × Minded model ix (l .top) cells extra₀ extra
+    × Minds model (importsOf model s) (attributesOf model s) ix (l .top) cells extra × Minded model ix (l .top) cells extra₀ extra
 
 abbrev pub attribute-μ-loop : attribute-lts.MeasureT-loop
 attribute-μ-loop model cells₀ extra₀ ix l left s number c₀ q₀ cells extra c q = c₀ .end - c .at
@@ -69,13 +70,13 @@ pub attribute-attribute-head-requires : (t : ℕ)
     → attribute-lts.Need-attribute-head-requires (attribute-claims t) (attribute-at t) attribute.Post attribute-Inv-loop attribute-μ-loop
 attribute-attribute-head-requires t c κs =
     let entry = c .before .before .before .before in
-    (entry .pre .1 .1 .0 .recalls .both .fits, entry .pre .1 .1 .1 .0)
+    (entry .pre .1 .1 .0 .recalls .both .fits, (entry .pre .1 .1 .0 .resolved, entry .pre .1 .1 .1 .0))
 
 pub attribute-counting-requires : (t : ℕ)
     → attribute-lts.Need-counting-requires (attribute-claims t) (attribute-at t) attribute.Post attribute-Inv-loop attribute-μ-loop
 attribute-counting-requires t c κs =
     let entry = c .before .before .before .before .before in
-    attribute-fits _ _ _ _ _ _ (c .attribute-head .ensures) (entry .pre .1 .1 .1 .1)
+    attribute-fits _ _ _ _ _ _ _ (c .attribute-head .ensures) (entry .pre .1 .1 .1 .1)
 
 pub attribute-returns : (t : ℕ) → attribute-lts.Need-returns (attribute-claims t) (attribute-at t) attribute.Post attribute-Inv-loop attribute-μ-loop
 attribute-returns t c =
@@ -152,7 +153,7 @@ attribute-graph-requires t c κs =
     let c17 = c16 .before in
     let entry = c17 .before .before .before .before .before in
     let g = rw (c8 .contents .ensures) at (loop .loop .inv .0) in
-    let first = attribute-first _ _ _ _ _ (c17 .attribute-head .ensures) (c16 .counting .ensures) (c14 .headed .given .1) in
+    let first = attribute-first _ _ _ _ _ _ (c17 .attribute-head .ensures) (c16 .counting .ensures) (c14 .headed .given .1) in
     let room = bodies-countable _ _ (entry .args .s) _ (entry .args .cells .now) _ _ _ (c17 .attribute-head .ensures) (c16 .counting .ensures)
     (c14 .headed .given .1) (c12 .number-of .ensures) (c11 .carrier-of .ensures) (c10 .is-body .ensures) (not-false _ (c9 .if1 .left))
     (entry .pre .1 .1 .1 .1) in (
@@ -161,7 +162,13 @@ attribute-graph-requires t c κs =
         going-enters g (c6 .next-of .ensures) (c4 .sought .given .1) (entry .pre .1 .0 .short) (entry .pre .1 .0 .walked)
             (own-contents (entry .args .f)) (attribute-body _ (true-T _ (sym (c10 .is-body .ensures) ∙ not-false _ (c9 .if1 .left))))
             (enters-low (enters-first {first = c14 .headed .given .0 .0} (first .0) (first .1) (entry .pre .1 .0))),
-        (loop .loop .inv .1, inner-countable _ _ (entry .args .s) (c .nested .ensures) _ _ (going-countable g (c6 .next-of .ensures) (c4 .sought .given .1) room)),
+        (
+          inner-minds (entry .args .s) (c .nested .ensures) _ (loop .loop .inv .1),
+          (
+            inner-countable _ _ (entry .args .s) (c .nested .ensures) _ _ (going-countable g (c6 .next-of .ensures) (c4 .sought .given .1) room),
+            inner-nodes (entry .args .s) (c .nested .ensures),
+          ),
+        ),
       ),
     )
 

@@ -13,6 +13,7 @@ use Rattle.rules.specs.Verdict.{fills}
 use Rattle.rules.specs.Count.{nodeNames, namesIn}
 use Rattle.scope.specs.Scope.{walkIn}
 use Rattle.scope.specs.Recall.{Minds}
+use Rattle.messages.specs.Around.{importsOf, attributesOf}
 use Rattle.messages.specs.Again.{nodeAgain}
 use Rattle.scope.proofs.ScopeLaws.{keeps-all}
 use Rattle.scope.proofs.RecallLaws.{minded-none, minded-then, minded-fewer, minds-still, minds-higher}
@@ -58,10 +59,10 @@ graph-claims t = (
 abbrev pub graph-Inv-loop : graph-lts.InvT-loop
 graph-Inv-loop model cells₀ extra₀ ix top left s f c₀ q₀ l₀ cells extra c q l =
     Going model Graph·node (f .next) (f .start) (nodeNames model (namesIn model (left - 1) false))
-    (λ size. nodeAgain model (fills size) (Nested model (left - 1) s size) f)
-    (each (nodeAgain model (fills (length cells₀)) (Nested model (left - 1) s (length cells₀)) f) (walkIn model cells₀ q₀)
+    (λ size. nodeAgain model (fills size) (Nested model (left - 1) s size) s f)
+    (each (nodeAgain model (fills (length cells₀)) (Nested model (left - 1) s (length cells₀)) s f) (walkIn model cells₀ q₀)
     (allFrom model Graph·node (f .next) (f .start))) cells₀ q₀ cells q c × Lists model ix top Graph·node Node·name f extra₀ cells extra l c
-    × Minds model ix top cells extra
+    × Minds model (importsOf model s) (attributesOf model s) ix top cells extra
 
 abbrev pub graph-μ-loop : graph-lts.MeasureT-loop
 graph-μ-loop model cells₀ extra₀ ix top left s f c₀ q₀ l₀ cells extra c q l = f .next - c .at
@@ -81,7 +82,7 @@ pub graph-opening-requires : (t : ℕ) → graph-lts.Need-opening-requires (grap
 graph-opening-requires t c κs =
     let c2 = c .before .before in
     let entry = c2 .before .before .before .before in
-    let room = opening-countable _ _ _ _ _ (c2 .if1 .left) (entry .pre .1 .1 .1) in
+    let room = opening-countable _ _ _ _ _ (c2 .if1 .left) (entry .pre .1 .1 .1 .0) in
     (entry .pre .1 .0 .short, (entry .pre .1 .0 .walked, (room, (entry .pre .1 .1 .0 .recalls, entry .pre .1 .1 .0 .fits))))
 
 pub graph-returns-2 : (t : ℕ) → graph-lts.Need-returns-2 (graph-claims t) (graph-at t) graph.Post graph-Inv-loop graph-μ-loop
@@ -107,7 +108,7 @@ graph-graph-outputs-requires t c κs =
     let loop = c .before .before .before .before .before in
     let c17 = loop .before .before .before .before .before .before .before .before .before .before .before .before in
     let entry = c17 .before .before .before .before in
-    (loop .loop .inv .1 .minded .recalls, outputs-room _ _ _ _ _ (c17 .if1 .left) (entry .pre .1 .1 .1))
+    (loop .loop .inv .1 .minded .recalls, outputs-room _ _ _ _ _ (c17 .if1 .left) (entry .pre .1 .1 .1 .0))
 
 pub graph-counting-requires : (t : ℕ) → graph-lts.Need-counting-requires (graph-claims t) (graph-at t) graph.Post graph-Inv-loop graph-μ-loop
 graph-counting-requires t c κs =
@@ -117,7 +118,7 @@ graph-counting-requires t c κs =
     let c18 = c15 .before .before .before in
     let entry = c18 .before .before .before .before in
     outputs-fit _ _ _ _ _ _ (c18 .if1 .left) _ _ (c15 .opening .ensures .0) (c15 .opening .ensures .1 .1 .0) (c9 .opened .given .1)
-    (c15 .opening .ensures .1 .0) (loop .loop .inv .0) _ (c .graph-outputs .ensures) (entry .pre .1 .1 .1)
+    (c15 .opening .ensures .1 .0) (loop .loop .inv .0) _ (c .graph-outputs .ensures) (entry .pre .1 .1 .1 .0)
 
 pub graph-same-length-3 : (t : ℕ) → graph-lts.Need-same-length-3 (graph-claims t) (graph-at t) graph.Post graph-Inv-loop graph-μ-loop
 graph-same-length-3 t c =
@@ -161,7 +162,7 @@ graph-node-requires t c κs =
     let c18 = c15 .before .before .before in
     let entry = c18 .before .before .before .before in
     let room = nodes-countable _ _ _ _ _ _ (c18 .if1 .left) _ _ (c15 .opening .ensures .0) (c15 .opening .ensures .1 .1 .0)
-    (c9 .opened .given .1) (entry .pre .1 .1 .1) in (
+    (c9 .opened .given .1) (entry .pre .1 .1 .1 .0) in (
       going-shorter (loop .loop .inv .0) (c5 .next-of .ensures) (c3 .sought .given .1) (entry .pre .0),
       (
         going-enters (loop .loop .inv .0) (c5 .next-of .ensures) (c3 .sought .given .1) (entry .pre .1 .0 .short) (entry .pre .1 .0 .walked)
@@ -170,7 +171,7 @@ graph-node-requires t c κs =
         (
           minds-higher (loop .loop .inv .2) (loop .loop .inv .1 .above) (lists-fits (loop .loop .inv .1)),
           (
-            lists-found (loop .loop .inv .1) (c5 .next-of .ensures) (c3 .sought .given .1),
+            rw (entry .pre .1 .1 .1 .1) (lists-found (loop .loop .inv .1) (c5 .next-of .ensures) (c3 .sought .given .1)),
             going-countable (loop .loop .inv .0) (c5 .next-of .ensures) (c3 .sought .given .1) room,
           ),
         ),

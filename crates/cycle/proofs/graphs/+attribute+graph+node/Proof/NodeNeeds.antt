@@ -11,6 +11,7 @@ use Rattle.rules.specs.Verdict.{fills}
 use Rattle.rules.specs.Count.{attributeNames, namesIn}
 use Rattle.scope.specs.Scope.{walkIn}
 use Rattle.scope.specs.Recall.{Minds}
+use Rattle.messages.specs.Around.{importsOf, attributesOf}
 use Rattle.messages.specs.Again.{attributeAgain}
 use Rattle.scope.proofs.RecallLaws.{minded-none, minded-recalled, minded-then, minded-fewer, minds-higher}
 use Rattle.parts.proofs.ListsLaws.{Lists, lists-start, lists-fits, lists-found, lists-next, lists-minds}
@@ -52,10 +53,10 @@ node-claims t = (
 abbrev pub node-Inv-loop : node-lts.InvT-loop
 node-Inv-loop model cells₀ extra₀ ix left s f c₀ q₀ own₀ cells extra c q own =
     Going model Node·attribute (f .next) (f .start) (attributeNames model (namesIn model left false))
-    (λ size. attributeAgain model (fills size) (Nested model left s size) f)
-    (each (attributeAgain model (fills (length cells₀)) (Nested model left s (length cells₀)) f) (walkIn model cells₀ q₀)
+    (λ size. attributeAgain model (fills size) (Nested model left s size) s f)
+    (each (attributeAgain model (fills (length cells₀)) (Nested model left s (length cells₀)) s f) (walkIn model cells₀ q₀)
     (allFrom model Node·attribute (f .next) (f .start))) cells₀ q₀ cells q c
-    × Lists model ix (own₀ .top) Node·attribute Attribute·name f extra₀ cells extra own c × Minds model ix (own₀ .top) cells extra
+    × Lists model ix (own₀ .top) Node·attribute Attribute·name f extra₀ cells extra own c × Minds model (importsOf model s) (attributesOf model s) ix (own₀ .top) cells extra
 
 abbrev pub node-μ-loop : node-lts.MeasureT-loop
 node-μ-loop model cells₀ extra₀ ix left s f c₀ q₀ own₀ cells extra c q own = f .next - c .at
@@ -68,7 +69,7 @@ node-node-rules-requires t c κs =
 pub node-counting-requires : (t : ℕ) → node-lts.Need-counting-requires (node-claims t) (node-at t) node.Post node-Inv-loop node-μ-loop
 node-counting-requires t c κs =
     let entry = c .before .before .before .before .before .before in
-    node-fits _ _ _ _ (entry .pre .1 .1 .1 .1) _ _ _ (c .node-rules .ensures)
+    node-fits _ _ _ _ (entry .pre .1 .1 .1 .1) _ _ _ _ (c .node-rules .ensures)
 
 pub node-returns : (t : ℕ) → node-lts.Need-returns (node-claims t) (node-at t) node.Post node-Inv-loop node-μ-loop
 node-returns t c =
@@ -95,7 +96,7 @@ node-closing-requires t c κs =
     let c10 = c8 .before .before in
     let c11 = c10 .before in
     let entry = c11 .before .before .before .before .before .before in
-    let first = node-first _ _ _ _ _ _ (c11 .node-rules .ensures) (c10 .counting .ensures) (c8 .headed .given .1) in
+    let first = node-first _ _ _ _ _ _ _ (c11 .node-rules .ensures) (c10 .counting .ensures) (c8 .headed .given .1) in
     let room = closing-countable _ _ _ _ _ _ _ _ (c11 .node-rules .ensures) (c10 .counting .ensures) (c8 .headed .given .1)
     (loop .loop .inv .0) (entry .pre .1 .1 .1 .1) in
     let low = node-low (loop .loop .inv .0) (enters-first {first = c8 .headed .given .0 .0} (first .0) (first .1) (entry .pre .1 .0)) in
@@ -137,7 +138,7 @@ node-attribute-requires t c κs =
     let c11 = c9 .before .before in
     let c12 = c11 .before in
     let entry = c12 .before .before .before .before .before .before in
-    let first = node-first _ _ _ _ _ _ (c12 .node-rules .ensures) (c11 .counting .ensures) (c9 .headed .given .1) in
+    let first = node-first _ _ _ _ _ _ _ (c12 .node-rules .ensures) (c11 .counting .ensures) (c9 .headed .given .1) in
     let room = attributes-countable _ _ (entry .args .s) _ _ _ _ _ (c12 .node-rules .ensures) (c11 .counting .ensures) (c9 .headed .given .1) (entry .pre .1 .1 .1 .1) in (
       going-shorter (loop .loop .inv .0) (c5 .next-of .ensures) (c3 .sought .given .1) (entry .pre .0),
       (

@@ -1,6 +1,6 @@
 use mathlib.Core.Path.{refl}
 use Rattle.rules.specs.Graph.{atIR3}
-use Rattle.messages.specs.Again.{context}
+use Rattle.messages.specs.Around.{context}
 use Rattle.messages.proofs.contexts.Surroundings.at_ir_3.Statement.{statement}
 use Rattle.messages.proofs.contexts.Surroundings.at_ir_3.Tie as tie
 

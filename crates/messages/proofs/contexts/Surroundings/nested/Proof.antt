@@ -1,5 +1,5 @@
 use mathlib.Core.Path.{refl}
-use Rattle.messages.specs.Again.{inside}
+use Rattle.messages.specs.Around.{inside}
 use Rattle.messages.proofs.contexts.Surroundings.nested.Statement.{statement}
 use Rattle.messages.proofs.contexts.Surroundings.nested.Tie as tie
 
