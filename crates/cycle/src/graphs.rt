@@ -112,7 +112,10 @@ pub fn node(
     ensures kept { λ _. ⌜ Keeps (p .used) (now (cells .entry)) (now (cells .exit)) ⌝ }
     ensures memory { λ _. ⌜ Minded (now (model .entry)) ix (l .top) (now (cells .exit)) (now (extra .entry)) (now (extra .exit)) ⌝ }
 {
-    let headed = counting(p, node_rules(model, cells, extra, ix, l, p.used, s, graph, f));
+    let headed = counting(
+        p,
+        node_rules(model, cells, extra, ix, l, p.used, s, graph, f),
+    );
     let Step::Went(first) = headed else {
         return headed;
     };

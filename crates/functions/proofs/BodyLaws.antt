@@ -18,7 +18,6 @@ use Rattle.wire.proofs.Along.{allFrom, along-contents}
 use Rattle.schema.specs.Numbers.{Function·input, Function·output, Function·node}
 use Rattle.schema.specs.declared.Kind.{Kind}
 use Rattle.wire.specs.Message.{text}
-use Rattle.rules.specs.Names.{Name}
 use Rattle.rules.specs.Walk.{Walk}
 use Rattle.rules.specs.Function.{functionInput, functionOutput}
 use Rattle.rules.specs.Count.{odds, nodeNames, namesIn}

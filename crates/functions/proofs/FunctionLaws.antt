@@ -1,8 +1,8 @@
 -- A function: its signature, and then its body.
 use Prim.Native.Nat.{ℕ, suc, _+_, _-_, _^_, _≤_, _<_}
 use native.Mathlib.Omega.{arith}
-use mathlib.Core.Path.{_≡_, refl, sym, ap, subst, _∙_}
-use mathlib.Core.Bool.{Bool, true, false}
+use mathlib.Core.Path.{_≡_, refl, sym, ap, subst}
+use mathlib.Core.Bool.{Bool, false}
 use mathlib.Core.List.{List, [], _∷_, _++_, map, flatMap}
 use lib.ListN.{length, drop, length-append}
 use borrow.Rule.Slice.PartMut.{putMid}
@@ -57,7 +57,7 @@ function-names model inner f =
     let nodes = flatMap (nodeNames model inner) (allOf Function·node m) in
     let outs = map (text model) (allOf Function·output m) in
     let e : length (attributes ++ defaults ++ ins ++ nodes ++ outs) ≡ length (attributes ++ defaults ++ ins ++ nodes) + length outs =
-        length-append (attributes ++ defaults ++ ins ++ nodes) outs in
+    length-append (attributes ++ defaults ++ ins ++ nodes) outs in
     let e′ : length (attributes ++ defaults ++ ins ++ nodes) ≡ length (attributes ++ defaults ++ ins) + length nodes = length-append (attributes ++ defaults ++ ins) nodes in
     let e″ : length (attributes ++ defaults ++ ins) ≡ length (attributes ++ defaults) + length ins = length-append (attributes ++ defaults) ins in
     let e‴ : length (attributes ++ defaults) ≡ length attributes + length defaults = length-append attributes defaults in

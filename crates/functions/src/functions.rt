@@ -22,14 +22,7 @@ use values::numbers::FUNCTION_NODE;
 use wire::Field;
 
 // What it says before its body, with its attributes and imports in the part of the extra cells that is for lists.
-fn head(
-    model: &[u8],
-    list: &[u8],
-    extra: &mut [u32],
-    ix: Index,
-    twice: bool,
-    f: Field,
-) -> Signature
+fn head(model: &[u8], list: &[u8], extra: &mut [u32], ix: Index, twice: bool, f: Field) -> Signature
     requires { ⌜ Remembering (now model) ix (now extra) ⌝ }
     requires { ⌜ length (now model) < 2 ^ 32 ⌝ }
     requires { ⌜ f .next ≤ length (now model) ⌝ }

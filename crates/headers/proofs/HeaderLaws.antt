@@ -15,7 +15,7 @@ use Rattle.wire.specs.declared.Field.{Field}
 use Rattle.wire.specs.declared.outlines.Outline.{Outline}
 use Rattle.wire.specs.Outline.{Starts, Outlines}
 use Rattle.varint.proofs.Lists.{no-first}
-use Rattle.varint.proofs.Passing.{pass-same, passed-bind, passed-seq}
+use Rattle.varint.proofs.Passing.{passed-seq}
 use Rattle.varint.proofs.Refusing.{when-broken, when-kept}
 use Rattle.schema.specs.Numbers.{Model·ir-version, Model·graph, Model·opset-import, Model·functions}
 use Rattle.schema.specs.Answers.{silent}
@@ -30,8 +30,6 @@ use Rattle.headers.specs.declared.imports.Heading.the-variants as headin
 use Rattle.values.specs.declared.Ruling.{Ruling}
 use Rattle.values.specs.declared.Ruling.the-variants as ruling
 use Rattle.headers.proofs.ImportLaws.{All, imports-agree}
-use Rattle.headers.proofs.Silent.{silent-fails, silent-passes}
-use Rattle.values.proofs.RulingLaws.{ruled-kept, ruled-refused}
 
 pub version-below : (n : ℕ) → n < 3 → false ≡ within 3 11 n
 unfolding within

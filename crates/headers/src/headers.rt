@@ -68,14 +68,5 @@ pub fn header(model: &[u8], list: &[u8], lists: &mut [u32], seed: u64, o: Outlin
     if !has_from(model, m, MODEL_OPSET_IMPORT, o.third) {
         return unheaded(Ruling::NO_OPSET_IMPORT, m.place);
     }
-    opset_imports(
-        model,
-        list,
-        lists,
-        seed,
-        0,
-        m,
-        MODEL_OPSET_IMPORT,
-        o.third,
-    )
+    opset_imports(model, list, lists, seed, 0, m, MODEL_OPSET_IMPORT, o.third)
 }

@@ -1,6 +1,6 @@
 -- An attribute's rules in the order of the code's tests.
 use Prim.Native.Nat.{ℕ}
-use mathlib.Core.Path.{_≡_, refl, sym, ap, _∙_}
+use mathlib.Core.Path.{_≡_, sym, ap, _∙_}
 use mathlib.Core.Bool.{Bool, true, false, not, _&&_}
 use lib.ListN.{length}
 use Rattle.varint.specs.Outcome.{pass, fail, _>>=_, _>>_, Judged, Rule, refused, refuse_at:_when:_}

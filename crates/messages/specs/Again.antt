@@ -2,7 +2,7 @@
 -- again where they stand. No rule speaks of this; contracts of the code do, and `graph-again` in proofs/AgainLaws.antt says
 -- that it is the second walk of document 01.
 use Prim.Native.Nat.{ℕ, zero, suc}
-use mathlib.Core.Bool.{Bool, false, not}
+use mathlib.Core.Bool.{Bool, not}
 use mathlib.Core.List.{List, [], _∷_, _++_, flatMap}
 use Rattle.varint.specs.Outcome.{pass, _>>=_, _>>_, each, Judged, refused, refuse_at:_when:_}
 use Rattle.wire.specs.declared.Field.{Field}

@@ -24,7 +24,7 @@ use Rattle.rules.proofs.Rules.{Adds, odds-append, odds-none, tested-tells, nami
 use Rattle.rules.proofs.Counting.{past, grew-name}
 use Rattle.rules.proofs.NamesFew.{odds-few, from-few}
 use Rattle.headers.specs.Earlier.{earlierIn}
-use Rattle.values.specs.Answers.{more, tallySays}
+use Rattle.values.specs.Answers.{tallySays}
 use Rattle.values.specs.declared.tallies.Tally.{Tally}
 use Rattle.values.specs.declared.tallies.Tally.the-variants as tally
 use Rattle.values.proofs.TallyLaws.{tally-most, tally-few, Tallying, tallying-fits}

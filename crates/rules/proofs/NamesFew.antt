@@ -198,7 +198,7 @@ function-names-few model f h k =
     let nodes = flatMap (nodeNames model (namesIn model 7 false)) (allOf Function·node m) in
     let outs = map (text model) (allOf Function·output m) in
     let e : length (attributes ++ defaults ++ ins ++ nodes ++ outs) ≡ length (attributes ++ defaults ++ ins ++ nodes) + length outs =
-        length-append (attributes ++ defaults ++ ins ++ nodes) outs in
+    length-append (attributes ++ defaults ++ ins ++ nodes) outs in
     let e′ : length (attributes ++ defaults ++ ins ++ nodes) ≡ length (attributes ++ defaults ++ ins) + length nodes = length-append (attributes ++ defaults ++ ins) nodes in
     let e″ : length (attributes ++ defaults ++ ins) ≡ length (attributes ++ defaults) + length ins = length-append (attributes ++ defaults) ins in
     let e‴ : length (attributes ++ defaults) ≡ length attributes + length defaults = length-append attributes defaults in

@@ -1,7 +1,7 @@
 -- Document 02, Req 01: function bodies. "Functions are judged in list order after the main graph, each so: name (22, 21); 41; field 6 names,
 -- then field 11 (22, 21, 42, 33, 32); imports (12, 13, 14); inputs (22, 21, 23, 40); nodes (29 within the function); outputs (22, 21, 35)."
 use Prim.Native.Nat.{ℕ}
-use mathlib.Core.Bool.{Bool, true, false, not, _||_}
+use mathlib.Core.Bool.{Bool, false, not, _||_}
 use mathlib.Core.List.{List, [], _∷_}
 use Rattle.varint.specs.Outcome.{pass, _>>=_, _>>_, each, Judged, refuse_at:_when:_}
 use Rattle.wire.specs.declared.Field.{Field}

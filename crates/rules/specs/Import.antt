@@ -1,5 +1,5 @@
 -- The imports of a model or of a function: "each import in order (13 then 14)".
-use mathlib.Core.Bool.{Bool, true, not}
+use mathlib.Core.Bool.{not}
 use mathlib.Core.List.{List, _∷_}
 use Rattle.varint.specs.Outcome.{pass, _>>_, Judged, refuse_at:_when:_}
 use Rattle.wire.specs.declared.Field.{Field}

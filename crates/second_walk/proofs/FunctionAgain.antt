@@ -2,22 +2,21 @@
 -- code reads again.
 use Prim.Native.Nat.{ℕ}
 use mathlib.Core.Path.{_≡_, refl, sym, ap, ap₂, _∙_}
-use mathlib.Core.Bool.{Bool, true, false, _||_}
+use mathlib.Core.Bool.{Bool, _||_}
 use mathlib.Core.List.{List, [], _∷_, _++_, map, append-assoc}
 use Rattle.varint.specs.Outcome.{pass, _>>=_, each, Judged}
 use Rattle.varint.specs.Bytes.{Bytes}
 use Rattle.varint.proofs.Lists.{or-swap}
 use Rattle.wire.specs.Message.{allOf, message}
 use Rattle.wire.specs.declared.Field.{Field}
-use Rattle.schema.specs.Numbers.{Function·input, Function·output, Function·node}
-use Rattle.rules.specs.Walk.{Context, nestedIn, Walk, GraphJudge, afresh, along}
+use Rattle.schema.specs.Numbers.{Function·input, Function·output}
+use Rattle.rules.specs.Walk.{Context, nestedIn, Walk, GraphJudge, afresh}
 use Rattle.rules.specs.Identity.{Identity, identityOf, sameIdentity, identified}
-use Rattle.rules.specs.Node.{node}
 use Rattle.rules.specs.Graph.{graph}
-use Rattle.rules.specs.Function.{functionInput, functionOutput, functionBody, Heading, Functions, functions, functionHead, function}
+use Rattle.rules.specs.Function.{functionInput, functionOutput, functionBody, Heading, Functions, functions, function}
 use Rattle.rules.proofs.Matching.{bind-assoc}
 use Rattle.messages.specs.Around.{inside, importNumber, importsOf, attributesOf}
-use Rattle.messages.specs.Again.{graphAgain, nodeAgain}
+use Rattle.messages.specs.Again.{graphAgain}
 use Rattle.signatures.specs.Signature.{signatureAgain}
 use Rattle.signatures.proofs.HeadLaws.{Headed, head-again}
 use Rattle.identities.specs.Functions.{functionsBefore}

@@ -2,7 +2,7 @@
 use Prim.Native.Nat.{ℕ}
 use mathlib.Core.Path.{_≡_, sym, ap, _∙_}
 use mathlib.Core.List.{List}
-use Rattle.varint.specs.Outcome.{pass, _>>=_, Judged}
+use Rattle.varint.specs.Outcome.{_>>=_, Judged}
 use Rattle.varint.specs.Bytes.{Bytes}
 use Rattle.varint.specs.declared.Refusal.{Refusal}
 use Rattle.varint.proofs.Answers.{says}

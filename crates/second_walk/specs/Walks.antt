@@ -2,7 +2,7 @@
 -- says that the second part is that of document 02.
 use Prim.Native.Nat.{ℕ, _*_, _^_, _≤_}
 use mathlib.Core.Bool.{Bool}
-use mathlib.Core.List.{List, map}
+use mathlib.Core.List.{map}
 use mathlib.Core.Option.{none, some}
 use Rattle.varint.specs.Outcome.{_>>=_, each, Judged, refused}
 use Rattle.varint.specs.Bytes.{Bytes}

@@ -129,9 +129,7 @@ pub fn functions(
             return Step::Went(q);
         };
         let twice = is_defined(model, &extra[last..], ix.seed, known, version, at, f);
-        let step = judge_function(
-            model, list, cells, extra, ix, last, version, twice, q, f,
-        );
+        let step = judge_function(model, list, cells, extra, ix, last, version, twice, q, f);
         let Step::Went(further) = step else {
             return step;
         };

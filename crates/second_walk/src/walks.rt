@@ -24,7 +24,9 @@ fn ir_version(model: &[u8], o: Outline) -> u64
     requires { ⌜ Outlined (now model) o ⌝ }
     ensures { λ r. ⌜ r ≡ numberOf Model·ir-version (message (now (model .entry)) (whole (now (model .entry)))) ⌝ }
 {
-    whole(model).first_from(model, MODEL_IR_VERSION, o.first).value()
+    whole(model)
+        .first_from(model, MODEL_IR_VERSION, o.first)
+        .value()
 }
 
 // With extra cells that are all zero.

@@ -22,8 +22,7 @@ nodes-requires : tie.Need-nodes-requires
 nodes-requires c κs =
     let c3 = c .before .before .before in
     let c9 = c3 .before .before .before .before .before .before in
-    let entry = c9 .before .before .before .before .before .before in
-    (
+    let entry = c9 .before .before .before .before .before .before in (
       body-enters _ (entry .args .left) (entry .args .s) _ _ _ _ _ (c9 .inputs .ensures .0) (c9 .inputs .ensures .1 .0) (c9 .inputs .ensures .1 .1 .0) (c3 .bound .given .1) (entry .pre .0),
       (
         minds-still (entry .pre .1 .0) (minded-recalled (entry .pre .1 .0 .fits) (c9 .inputs .ensures .1 .1 .1)),

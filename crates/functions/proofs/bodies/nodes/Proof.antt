@@ -1,5 +1,4 @@
 use Prim.Native.Nat.{_-_}
-use native.Mathlib.Omega.{arith}
 use mathlib.Core.Path.{refl, _∙_}
 use mathlib.Core.Bool.{false}
 use lib.ListN.{length}
@@ -58,8 +57,7 @@ node-requires c κs =
     let c3 = c .before .before .before in
     let c5 = c3 .before .before in
     let loop = c5 .before in
-    let entry = loop .before .before .before .before .before in
-    (
+    let entry = loop .before .before .before .before .before in (
       going-enters (loop .loop .inv .0) (c5 .next-of .ensures) (c3 .sought .given .1) (entry .pre .0 .short) (entry .pre .0 .walked) (own-contents _) function-node
           (enters-low (entry .pre .0)),
       (
@@ -101,8 +99,7 @@ loop-again c =
     let c11 = c5 .before .before .before .before .before .before in
     let c15 = c11 .before .before .before .before in
     let c17 = c15 .before .before in
-    let loop = c17 .before in
-    (
+    let loop = c17 .before in (
       going-goes (loop .loop .inv .0) (c17 .next-of .ensures) (c15 .sought .given .1) _ (c11 .node .ensures .0) (c11 .node .ensures .1 .0)
           (c11 .node .ensures .1 .1 .1 .0) (nodes-count _ _ _ _) (c11 .node .ensures .1 .1 .0) (c5 .step .given .1),
       lists-next (loop .loop .inv .1) (c17 .next-of .ensures) (c15 .sought .given .1) (c11 .node .ensures .1 .1 .1 .1) (c2 .list .ensures),

@@ -24,8 +24,7 @@ unfolding within
 body-requires c κs =
     let c7 = c .before .before .before .before .before .before .before in
     let c11 = c7 .before .before .before .before in
-    let entry = c11 .before .before .before .before .before .before in
-    (
+    let entry = c11 .before .before .before .before .before .before in (
       begun-enters (entry .pre .0) refl,
       (
         begun-minds (entry .pre .1 .0) (c11 .head .ensures .1 .1) _ _ (c11 .head .ensures .1 .0) (c7 .d .given .1),
@@ -41,8 +40,7 @@ unfolding counted
 returns c =
     let c1 = c .before in
     let c5 = c1 .before .before .before .before in
-    let entry = c5 .before .before .before .before .before .before in
-    (
+    let entry = c5 .before .before .before .before .before .before in (
       function-unread _ _ (entry .args .left) (entry .args .version) _ (entry .args .cells .now) (entry .args .p) _ _ (c5 .head .ensures .0) (c1 .r .given .1) _,
       (tt, (refl, (c5 .head .ensures .1 .1 .size, recalling-held (entry .pre .1 .0) (c5 .head .ensures .1 .1)))),
     )
@@ -53,8 +51,7 @@ returns-2 c =
     let c4 = c .before .before .before .before in
     let c12 = c4 .before .before .before .before .before .before .before .before in
     let c16 = c12 .before .before .before .before in
-    let entry = c16 .before .before .before .before .before .before in
-    (
+    let entry = c16 .before .before .before .before .before .before in (
       c4 .body .ensures .0 ∙ function-begun _ _ (entry .args .left) (entry .args .version) _ (entry .args .cells .now) (entry .args .p) _ _ (c16 .head .ensures .0) (c12 .d .given .1),
       (
         begun-counts _ _ _ refl _ (c4 .body .ensures .1 .1 .0),

@@ -12,8 +12,7 @@ read-signature-requires c κs =
 returns : tie.Need-returns
 returns c =
     let c2 = c .before .before in
-    let entry = c2 .before .before .before .before .before in
-    (
+    let entry = c2 .before .before .before .before .before in (
       c2 .read-signature .ensures .0,
       (
         declares-on _ (entry .args .ix) _ (entry .pre .0 .fits) _ _ _ (c2 .read-signature .ensures .1 .0),

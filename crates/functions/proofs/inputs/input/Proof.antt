@@ -42,8 +42,7 @@ returns-2 c =
     let c4 = c .before .before .before .before in
     let c5 = c4 .before in
     let c9 = c5 .before .before .before .before in
-    let c11 = c9 .before .before in
-    (
+    let c11 = c9 .before .before in (
       odd-says _ _ (c5 .with-odd .ensures) _ _ _ _ _ _ (c4 .define .ensures .0) ∙ input-new _ _ _ (c11 .test-name .ensures) _ _ (c9 .odd .given .1),
       (
         odd-grows _ _ (c5 .with-odd .ensures) _ (c4 .define .ensures .1 .0),

@@ -1,4 +1,4 @@
-use mathlib.Core.Path.{sym, ap, _∙_}
+use mathlib.Core.Path.{ap, _∙_}
 use Rattle.varint.specs.Lists.{isEmpty}
 use Rattle.values.specs.Answers.{tallySays}
 use Rattle.values.proofs.NameLaws.{field-some}

@@ -1,8 +1,7 @@
-use mathlib.Core.Path.{sym, ap, subst, _∙_}
+use mathlib.Core.Path.{sym, ap, _∙_}
 use Rattle.varint.specs.Bytes.{member}
 use borrow.Author.Tests.{not-true, not-false}
 use Rattle.messages.proofs.ContextLaws.{resolved-none, attributes-all}
-use borrow.Author.Needs.{needs}
 use Rattle.messages.proofs.references.is_resolved.Statement.{statement}
 use Rattle.messages.proofs.references.is_resolved.Tie as tie
 

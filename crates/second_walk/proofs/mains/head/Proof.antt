@@ -12,8 +12,7 @@ header-requires c κs =
 returns : tie.Need-returns
 returns c =
     let c2 = c .before .before in
-    let entry = c2 .before .before .before .before .before in
-    (
+    let entry = c2 .before .before .before .before .before in (
       c2 .header .ensures .0,
       (
         holds-on _ _ _ (entry .args .ix) _ _ (entry .pre .1 .0 .fits) _ _ (c2 .header .ensures .1 .0),

@@ -31,8 +31,7 @@ graph-requires c κs =
     let c12 = c8 .before .before .before .before in
     let entry = c12 .before .before .before .before .before .before in
     let enters = main-enters _ (entry .pre .1 .1 .1 .0) (entry .pre .1 .1 .1 .1) (c6 .whole .ensures) _
-    (started-first _ _ _ (rw (c6 .whole .ensures) (entry .pre .0 .graph)) _ (c5 .first-from .ensures)) (c3 .g .given .1) in
-    (
+    (started-first _ _ _ (rw (c6 .whole .ensures) (entry .pre .0 .graph)) _ (c5 .first-from .ensures)) (c3 .g .given .1) in (
       enters,
       (
         main-minds (entry .pre .1 .1 .0) (c12 .head .ensures .1 .1) (c12 .head .ensures .1 .0) (c8 .heading .given .1) _ (c6 .whole .ensures),
@@ -62,10 +61,9 @@ returns-3 c =
     let c17 = c13 .before .before .before .before in
     let entry = c17 .before .before .before .before .before .before in
     let enters = main-enters _ (entry .pre .1 .1 .1 .0) (entry .pre .1 .1 .1 .1) (c11 .whole .ensures) _
-    (started-first _ _ _ (rw (c11 .whole .ensures) (entry .pre .0 .graph)) _ (c10 .first-from .ensures)) (c8 .g .given .1) in
-    (
+    (started-first _ _ _ (rw (c11 .whole .ensures) (entry .pre .0 .graph)) _ (c10 .first-from .ensures)) (c8 .g .given .1) in (
       c4 .graph .ensures .0 ∙ main-found _ _ _ _ (c17 .head .ensures .0) (imported-heading (c13 .heading .given .1)) (c11 .whole .ensures) _
-    (started-first _ _ _ (rw (c11 .whole .ensures) (entry .pre .0 .graph)) _ (c10 .first-from .ensures)) (entry .pre .1 .0) (c8 .g .given .1) _,
+          (started-first _ _ _ (rw (c11 .whole .ensures) (entry .pre .0 .graph)) _ (c10 .first-from .ensures)) (entry .pre .1 .0) (c8 .g .given .1) _,
       (
         main-few _ _ (entry .args .version) _ _ (entry .args .cells .now) _ _ enters (c4 .graph .ensures .0) (c4 .graph .ensures .1 .1 .0),
         (

@@ -61,8 +61,7 @@ judge-function-requires c κs =
     let c6 = c .before .before .before .before .before .before in
     let c8 = c6 .before .before in
     let loop = c8 .before in
-    let entry = loop .before .before .before .before .before in
-    (
+    let entry = loop .before .before .before .before .before in (
       judging-enters (loop .loop .inv) (c8 .next-of .ensures) (c6 .sought .given .1) (entry .pre .0) (entry .pre .1 .0),
       (
         omega (arith, entry .pre .1 .1 .1 .0, loop .loop .inv .sized),
@@ -88,8 +87,7 @@ returns-2 c =
     let c9 = c6 .before .before .before in
     let c13 = c9 .before .before .before .before in
     let c15 = c13 .before .before in
-    let loop = c15 .before in
-    (
+    let loop = c15 .before in (
       judging-stops (loop .loop .inv) (c15 .next-of .ensures) (c13 .sought .given .1) (c9 .is-defined .ensures) _ _ (c6 .judge-function .ensures .0) (c .enum-told2 .given .1),
       c6 .judge-function .ensures .1 .1 .0 ∙ loop .loop .inv .size,
     )
@@ -100,8 +98,7 @@ add-function-requires c κs =
     let c15 = c8 .before .before .before .before .before .before .before in
     let c17 = c15 .before .before in
     let loop = c17 .before in
-    let entry = loop .before .before .before .before .before in
-    (
+    let entry = loop .before .before .before .before .before in (
       rw (c8 .judge-function .ensures .1 .1 .1 .1 .1) (defining-before (loop .loop .inv .table) (c17 .next-of .ensures) (c15 .sought .given .1)),
       (
         omega (arith, entry .pre .1 .1 .1 .0, loop .loop .inv .sized, c8 .judge-function .ensures .1 .1 .1 .0),

@@ -13,8 +13,7 @@ slice-aggregate-function c =
 returns : tie.Need-returns
 returns c =
     let c4 = c .before .before .before .before in
-    let entry = c4 .before .before .before .before .before .before .before in
-    (
+    let entry = c4 .before .before .before .before .before .before .before in (
       c4 .function .ensures .0,
       (
         c4 .function .ensures .1 .0,
