@@ -119,11 +119,12 @@ struct onnx_gate_answer onnx_gate_check(const uint8_t *model, size_t model_lengt
  *                                each call (getrandom), and whoever makes a model cannot make its names collide.
  *
  * How many extra cells: 4 * cells_length, or 4 * (cells_length / 2) + 2 + 4 * R where that is more, make everything linear in the
- * model's length. 4 * (cells_length / 2) + 1 of them index the visible names, and the lists have the others. R is the most names of
- * lists that are open at once: imports with a domain that is not empty, initializers of the main graph, or at IR version 3 of the
- * innermost graph that is open, named nodes of the graphs that are open, attributes of the nodes that are open; and in a function
- * also the functions up to it, its own attributes, its own imports with such a domain, and its own named nodes. With fewer than
- * that, a list that does not fit is read again for each name in it: the same answer, later. All cells of both kinds are cleared in
+ * model's length. 4 * (cells_length / 2) + 1 of them index the visible names, the last ones the functions, four for each, and the
+ * lists have the others. R is the number of functions, and besides the most names of lists that are open at once: imports with a
+ * domain that is not empty, initializers of the main graph, or at IR version 3 of the innermost graph that is open, named nodes of
+ * the graphs that are open, attributes of the nodes that are open; in a function also its own attributes, its own imports with such a
+ * domain, and its own named nodes. With fewer than that, a list that does not fit is read again for each name in it, and functions
+ * that do not are: the same answer, later. All cells of both kinds are cleared in
  * each call, so that far more of them than needed cost time as well.
  *
  * How much memory: never are more than model_length / 3 names visible, and R is never more than model_length / 3. A name takes 8

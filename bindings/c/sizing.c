@@ -14,7 +14,7 @@ enum message { MODEL, FUNCTION, GRAPH, NODE, ATTRIBUTE };
 
 struct count {
     const uint8_t *model;
-    size_t outside;             /* imports and functions of the model: their lists stay open */
+    size_t outside;             /* imports of the model, and its functions: room is made for all of these before the first is judged */
     struct onnx_gate_need open; /* of the graph or function that is counted */
     struct onnx_gate_need most; /* of those before it */
 };

@@ -3,14 +3,14 @@
 use gate_tests::parts::{all, first};
 use gate_tests::wire::{fields, Field, BYTES};
 
-/// Imports with a domain, initializers of the innermost open graph, named nodes of open graphs and attributes of open nodes; and in a
-/// function the functions up to it, its attributes and its imports. The index has no use for initializers of a body but at IR version 3;
-/// counting them at every version changes nothing for these models.
+/// The functions, and the most names of lists: in the main graph the model's imports with a domain, initializers of the innermost open graph, named
+/// nodes of open graphs and attributes of open nodes; in a function its attributes, its imports, and what its nodes have open. The index has no
+/// use for initializers of a body but at IR version 3; counting them at every version changes nothing for these models.
 pub fn open_at_once(model: &[u8]) -> usize {
     let whole = Field { place: 0, number: 0, kind: BYTES, value: 0, start: 0, end: model.len() };
-    let main = first(model, whole, 7).map_or(0, |graph| in_graph(model, graph));
-    let functions = all(model, whole, 25).enumerate().map(|(at, function)| at + 1 + in_function(model, function));
-    imports(model, whole, 8) + main.max(functions.max().unwrap_or(0))
+    let main = imports(model, whole, 8) + first(model, whole, 7).map_or(0, |graph| in_graph(model, graph));
+    let within = all(model, whole, 25).map(|function| in_function(model, function)).max().unwrap_or(0);
+    all(model, whole, 25).count() + main.max(within)
 }
 
 fn imports(model: &[u8], message: Field, number: u32) -> usize {

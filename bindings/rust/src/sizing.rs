@@ -149,7 +149,7 @@ fn need(model: &[u8], operators: &[u8]) -> Need {
         return Need::default();
     }
     let found = skim(model);
-    if found.free > SHORT && ends_before_lists(model, operators) {
+    if found.functions + found.free > SHORT && ends_before_lists(model, operators) {
         return Need::default();
     }
     // no import is kept that the operator list does not have

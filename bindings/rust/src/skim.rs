@@ -7,23 +7,25 @@
 pub struct Need {
     /// Names that are visible at once: inputs, initializers and node outputs, of the main graph or of a function.
     pub names: usize,
+    /// Functions, each of which the library tells from those before it: it makes room for all of them before it judges the
+    /// first.
+    pub functions: usize,
     /// Imports of the model with a domain.
     pub imports: usize,
-    /// The same of a function, which are open beside those of the model.
+    /// The same of a function.
     pub own_imports: usize,
     /// Names of lists that are open at once and each have a visible name to them, so that they are no more than those:
     /// initializers of a graph, and named nodes with an output. The library lists the initializers of a nested graph at
     /// IR version 3 only; they are counted at every version, as the room for visible names has room for them.
     pub bound: usize,
-    /// Names of lists that are open at once and have none: attributes, functions, and named nodes whose outputs are left
-    /// out.
+    /// Names of lists that are open at once and have none: attributes, and named nodes whose outputs are left out.
     pub free: usize,
 }
 
 impl Need {
-    /// Names of lists that are open at once in a walk whose cells hold so many visible names.
+    /// Functions, and names of lists that are open at once in a walk whose cells hold so many visible names.
     pub fn lists(&self, names: usize) -> usize {
-        self.imports + self.own_imports + self.bound.min(names) + self.free
+        self.functions + self.imports + self.own_imports + self.bound.min(names) + self.free
     }
 }
 
@@ -31,7 +33,7 @@ impl Need {
 const DEEPEST: usize = 8;
 
 /// The contents of a function, import, initializer, named node or attribute whose name is kept have at least the name or
-/// domain, in three bytes, and a number or an operator type.
+/// domain, in three bytes, and a number, an operator type or an import.
 const LEAST_CONTENTS: usize = 5;
 
 /// Counts up to the first byte that makes no sense: the library refuses such a model before it remembers a name. What it
@@ -47,7 +49,6 @@ pub fn skim(model: &[u8]) -> Need {
 #[derive(Default)]
 struct Skimmed {
     most: Need,
-    functions: usize,
     open: Open,
 }
 
@@ -76,8 +77,8 @@ impl Skimmed {
     }
 
     fn function(&mut self, message: &[u8]) -> Option<()> {
-        self.functions += usize::from(can_be_kept(message));
-        self.open = Open { free: self.functions, ..Open::default() };
+        self.most.functions += usize::from(can_be_kept(message));
+        self.open = Open::default();
         let mut imports = 0;
         for field in fields(message) {
             match field? {

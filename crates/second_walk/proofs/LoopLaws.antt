@@ -19,7 +19,7 @@ use Rattle.wire.specs.declared.Field.{Field}
 use Rattle.wire.specs.declared.Cursor.{Cursor}
 use Rattle.wire.specs.declared.Sought.{Sought}
 use Rattle.wire.specs.declared.Sought.the-variants as sought
-use Rattle.wire.proofs.Along.{allFrom, Along, along-done, along-fails, along-goes, along-falls, along-read, along-here, along-later, along-from, along-past}
+use Rattle.wire.proofs.Along.{allFrom, Onward, found-onward, Along, along-done, along-fails, along-goes, along-falls, along-here, along-later, along-from, along-past}
 use Rattle.wire.proofs.Reading.{Fits, AtTag, field-tells}
 use Rattle.schema.specs.declared.Kind.the-variants.{Function}
 use Rattle.schema.specs.Numbers.{Model·functions}
@@ -43,6 +43,11 @@ use Rattle.identities.proofs.LoopLaws.{Defining, defining-start, defining-goes}
 use Rattle.functions.specs.Function.{functionAgain}
 use Rattle.functions.proofs.FunctionLaws.{function-most}
 use Rattle.second_walk.specs.Walks.{oneAgain, functionsAgain, fewCounted}
+
+-- a function that was found lies in the model, behind its tag
+pub onward-fits : {model : Bytes} {number pos : ℕ} {f : Field} {next : Cursor} → Onward model number (length model) pos f next → Fits (f .place) (length model) f
+onward-fits {model} {number} {pos} {f} o =
+    passed-tells (Fits (f .place) (length model)) (AtTag (f .place)) (field model (length model) (f .place)) f (field-tells model (length model) (f .place)) (o .read)
 
 -- The functions before the cursor are judged, and answered `o` is what all of them answer. What is counted fits: a function has no more nodes than bytes, and
 -- no more names than 49 for each.
@@ -85,9 +90,7 @@ module _ {model list : Bytes} {v : ℕ} {ix : Index} {last : ℕ} {o : Judged Wa
     judging-falls = along-falls (g .along) read e
 
     fits : Fits (f .place) (length model) f
-    fits =
-        passed-tells (Fits (f .place) (length model)) (AtTag (f .place)) (field model (length model) (f .place)) f (field-tells model (length model) (f .place))
-        (along-read (g .along) read e)
+    fits = onward-fits (found-onward model Model·functions (length model) (g .along .ends) read e)
 
     -- the walk may go into the function
     pub judging-enters : length model < 2 ^ 32 → firstWalk model ≡ pass tt → Enters model Function q f

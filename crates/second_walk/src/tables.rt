@@ -7,8 +7,11 @@ use wire::Sought;
 // Of a function: a bucket, its place, its length, the next in its bucket.
 const CELLS_PER_FUNCTION: usize = 4;
 
-// Where those cells begin, of `size`: four for each function, or none of them where so many are not left beside the first `split`. The model's functions
-// begin at `at`.
+// Fewer bytes have no room for a name and an import: such a function is refused, and none after it is judged.
+const SHORTEST: usize = 5;
+
+// Where those cells begin, of `size`: four for each function that may come to be recorded, or none of them where so many are not left beside the first
+// `split`. The model's functions begin at `at`.
 pub fn table_at(model: &[u8], at: usize, split: usize, size: usize) -> usize
     requires { ⌜ split ≤ size ⌝ }
     ensures { λ r. ⌜ (split ≤ r) × (r ≤ size) ⌝ }
@@ -20,9 +23,12 @@ pub fn table_at(model: &[u8], at: usize, split: usize, size: usize) -> usize
     let mut r = size;
     loop {
         let sought = c.next_of(model, MODEL_FUNCTIONS);
-        let Sought::Found(_, next) = sought else {
+        let Sought::Found(f, next) = sought else {
             return r;
         };
+        if f.next - f.start < SHORTEST {
+            return r;
+        }
         if r - split < CELLS_PER_FUNCTION {
             return size;
         }

@@ -205,28 +205,32 @@ fn long_lists() {
     assert_eq!(check(&model(&twice), &list()).map_err(|r| r.number), Err(29));
 }
 
-/// So many functions, and one of them with so many attributes, to which a node refers one by one.
-fn functions(count: usize) -> Vec<u8> {
+/// So many functions; and one with so many attributes, to which a node refers one by one, as the last or the first.
+fn functions(count: usize, first: bool) -> Vec<u8> {
     let name = |number, at: usize| part(number, format!("a{at:06x}").as_bytes());
     let function = |at| part(25, &[&name(1, at)[..], b"\x4A\x02\x10\x0D"].concat());
     let attributes: Vec<u8> = (0..count).flat_map(|at| name(6, at)).collect();
     let reference = |at| part(5, &[&name(1, at)[..], b"\xA0\x01\x01", &name(21, at)].concat());
     let node = [&b"\x12\x01y\x22\x01X"[..], &(0..count).flat_map(reference).collect::<Vec<u8>>()].concat();
-    let last = [&b"\x0A\x01f\x4A\x02\x10\x0D"[..], &attributes, &part(7, &node)].concat();
-    [model(b""), (0..count).flat_map(function).collect(), part(25, &last)].concat()
+    let one = part(25, &[&b"\x0A\x01f\x4A\x02\x10\x0D"[..], &attributes, &part(7, &node)].concat());
+    let others = (0..count).flat_map(function).collect();
+    if first { [model(b""), one, others].concat() } else { [model(b""), others, one].concat() }
 }
 
 /// 41, 42 and 33 find names as quickly as the others do, and name for name.
 #[test]
 fn long_lists_of_functions() {
     let count = SHORT + 1_000;
-    let model = functions(count);
-    let found = need(&model, &list());
-    assert_eq!((found.names, found.bound, found.free), (1, 0, 1 + 3 * count));
-    assert_eq!(check(&model, &list()), Ok(Accepted { nodes: 1, names: 1, odd: 0 }));
-    let again = part(25, b"\x0A\x07a000000\x4A\x02\x10\x0D");
-    let expected = Err(Refusal { number: 41, place: model.len(), first: None });
-    assert_eq!(check(&[&model[..], &again].concat(), &list()), expected);
+    for first in [false, true] {
+        let model = functions(count, first);
+        let found = need(&model, &list());
+        assert_eq!((found.names, found.functions, found.bound, found.free), (1, 1 + count, 0, 2 * count));
+        assert_eq!(check(&model, &list()), Ok(Accepted { nodes: 1, names: 1, odd: 0 }));
+        for (number, after) in [(41, &b"\x0A\x07a000000\x4A\x02\x10\x0D"[..]), (22, b"")] {
+            let expected = Err(Refusal { number, place: model.len(), first: None });
+            assert_eq!(check(&[&model[..], &part(25, after)].concat(), &list()), expected);
+        }
+    }
 }
 
 /// All tries together have at most three times the cells of the last.

@@ -116,31 +116,31 @@ fn lists_of_a_function() {
     let imports = [field_of(9, IMPORT), field_of(9, IMPORT), field_of(9, b"\x10\x01")].concat();
     let values = [field_of(4, b"i"), field_of(4, b""), field_of(5, b"a")].concat();
     let parts = [name, nodes, attributes, imports, values];
-    let expected = Need { own_imports: 2, ..need(3, 2, 1 + 2 + 3) };
+    let expected = Need { functions: 1, own_imports: 2, ..need(3, 2, 2 + 3) };
     assert_eq!(skim(&function(&parts)), expected);
     let reversed: Vec<Vec<u8>> = parts.into_iter().rev().collect();
     assert_eq!(skim(&function(&reversed)), expected);
     let default = field_of(11, &field_of(6, &graph(ATTRIBUTE)));
-    assert_eq!(skim(&function(&[default])), need(0, 0, 2));
+    assert_eq!(skim(&function(&[default])), Need { functions: 1, ..need(0, 0, 1) });
     let short = function(&[field_of(1, b"f")]);
     assert_eq!(skim(&short.repeat(9)), need(0, 0, 0), "refused for what they lack");
 }
 
-/// The main graph and the functions begin with no names, and with no lists but those of the model: imports and, for a
-/// function, the functions up to it.
+/// The main graph and the functions begin with no names, and with no lists but those of the model; functions are all counted.
 #[test]
 fn functions_one_by_one() {
     let body = |names, attributes| [field_of(4, b"i").repeat(names), field_of(6, b"k").repeat(attributes)];
     let few = function(&body(2, 3));
-    assert_eq!(skim(&few), need(2, 0, 4));
-    assert_eq!(skim(&few.repeat(5)), need(2, 0, 8));
-    assert_eq!(skim(&[function(&body(1, 9)), few.repeat(5)].concat()), need(2, 0, 10));
+    let functions = |functions, names, free| Need { functions, ..need(names, 0, free) };
+    assert_eq!(skim(&few), functions(1, 2, 3));
+    assert_eq!(skim(&few.repeat(5)), functions(5, 2, 3));
+    assert_eq!(skim(&[function(&body(1, 9)), few.repeat(5)].concat()), functions(6, 2, 9));
     let imports = function(&[field_of(9, IMPORT).repeat(4)]);
     let model = [field_of(8, IMPORT), imports, function(&[field_of(9, IMPORT)]), field_of(8, IMPORT)].concat();
-    assert_eq!(skim(&model), Need { imports: 2, own_imports: 4, ..need(0, 0, 2) });
+    assert_eq!(skim(&model), Need { imports: 2, own_imports: 4, ..functions(2, 0, 0) });
     let main = field_of(7, &graph(&[&field_of(6, &graph(ATTRIBUTE)), ATTRIBUTE].concat()));
     for model in [[&main[..], &few].concat(), [&few[..], &main].concat()] {
-        assert_eq!(skim(&model), need(8, 1, 4));
+        assert_eq!(skim(&model), Need { functions: 1, ..need(8, 1, 3) });
     }
 }
 
@@ -151,15 +151,15 @@ fn graphs_in_functions() {
     for depth in 2..=20 {
         let holder = field_of(5, &[&field_of(6, &inner), ATTRIBUTE].concat());
         let found = skim(&function(&[node_of_function(&holder, b"y")]));
-        assert_eq!(found, need(1 + 4 * (depth - 1).min(7), 1, 2), "depth {depth}");
+        assert_eq!(found, Need { functions: 1, ..need(1 + 4 * (depth - 1).min(7), 1, 1) }, "depth {depth}");
         inner = graph(&[&field_of(6, &inner), ATTRIBUTE].concat());
     }
 }
 
 #[test]
 fn what_names_bound() {
-    let need = Need { names: 9, imports: 2, own_imports: 3, bound: 50, free: 300 };
-    assert_eq!((need.lists(0), need.lists(7), need.lists(1000)), (305, 312, 355));
+    let need = Need { names: 9, functions: 1000, imports: 2, own_imports: 3, bound: 50, free: 300 };
+    assert_eq!((need.lists(0), need.lists(7), need.lists(1000)), (1305, 1312, 1355));
 }
 
 #[test]
