@@ -1,6 +1,5 @@
 -- A loop over the fields of a list that lists their names, after those of `front`: `pre` is what it has behind it.
-use Prim.Native.Nat.{ℕ, _-_, _<_}
-use native.Mathlib.Omega.{arith}
+use Prim.Native.Nat.{ℕ, _-_}
 use mathlib.Core.Path.{_≡_, refl, sym, ap, subst, _∙_}
 use mathlib.Core.Bool.{Bool, _||_}
 use mathlib.Core.List.{List, [], _∷_, _++_, map, append-assoc, append-nil}
@@ -55,9 +54,6 @@ module _ {model : Bytes} {seed number : ℕ} {front : List Bytes} {named : Field
 
       here : allOf number (message model m) ≡ q .pre ++ (f ∷ allFrom model number (m .next) (next .at))
       here = q .split ∙ ap (λ (x : List Field). q .pre ++ x) (gone .list)
-
-      pub behind-falls : m .next - next .at < m .next - c .at
-      behind-falls = let far = gone .onward in let near = gone .inside in omega arith
 
       -- those that stand before this one
       pub behind-found : Listed model seed lists l (front ++ map named (before (f .place) (allOf number (message model m))))

@@ -1,11 +1,10 @@
 -- A loop over the functions of a model, with what is kept of those behind it. No function of this crate has it: whoever judges functions does.
-use Prim.Native.Nat.{ℕ, _-_, _≤_, _<_}
+use Prim.Native.Nat.{ℕ, _-_, _≤_}
 use native.Mathlib.Omega.{arith}
 use mathlib.Core.Path.{_≡_, refl, sym, ap, subst, _∙_}
-use mathlib.Core.List.{List, [], _∷_, _++_, append-assoc, append-nil}
+use mathlib.Core.List.{List, [], _∷_, _++_, append-assoc}
 use lib.ListN.{length}
 use Rattle.varint.specs.Bytes.{Bytes}
-use Rattle.varint.proofs.Answers.{says}
 use Rattle.varint.proofs.Passing.{passed-tells}
 use Rattle.wire.specs.Wire.{field}
 use Rattle.wire.specs.Message.{allOf, message, whole}
@@ -16,7 +15,7 @@ use Rattle.wire.specs.declared.Field.{Field}
 use Rattle.wire.specs.declared.Cursor.{Cursor}
 use Rattle.wire.specs.declared.Sought.{Sought}
 use Rattle.wire.specs.declared.Sought.the-variants as sought
-use Rattle.wire.proofs.Along.{allFrom, Onward, all-none, found-onward}
+use Rattle.wire.proofs.Along.{allFrom, Onward, found-onward}
 use Rattle.wire.proofs.Fields.{all-of-ordered}
 use Rattle.wire.proofs.Reading.{Fits, AtTag, field-tells}
 use Rattle.schema.specs.Numbers.{Model·functions}
@@ -59,18 +58,9 @@ defining-start k i = record { pre = []; ends = refl; split = sym (k .same); iden
 -- r is the answer of the search at the cursor
 module _ {model : Bytes} {seed version : ℕ} {table : List ℕ} {known : Identities} {c : Cursor} (q : Defining model seed version table known c)
     {r : Sought} (read : soughtSays r ≡ soughtIn model Model·functions (c .end) (c .at)) where
-  pub defining-end : r ≡ sought.Missing → Identified model seed version table known (All model)
-  unfolding soughtSays
-  defining-end e =
-      let none = all-none model Model·functions (length model) (c .at) (says soughtSays (rw (q .ends) at read) e) in
-      subst (Identified model seed version table known) (sym (q .split ∙ ap (λ (l : List Field). q .pre ++ l) none ∙ append-nil (q .pre))) (q .identified)
-
   module _ {f : Field} {next : Cursor} (e : r ≡ sought.Found f next) where
     went : Onward model Model·functions (length model) (c .at) f next
     went = found-onward model Model·functions (length model) (q .ends) read e
-
-    pub defining-falls : length model - next .at < length model - c .at
-    defining-falls = let far = went .onward in let near = went .inside in omega arith
 
     -- the function lies in the model
     pub defining-fits : (f .start ≤ f .next) × (f .next ≤ length model)

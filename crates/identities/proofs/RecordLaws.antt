@@ -207,7 +207,3 @@ identified-none model seed version n = record {
   counted = λ _. refl;
   recorded = λ _. tt;
 }
-
--- and so does one of no cells
-pub identified-empty : (model : Bytes) (seed version : ℕ) → Identified model seed version [] (record { count = 0; whole = true }) []
-identified-empty model seed version = identified-none model seed version 0
