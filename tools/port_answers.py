@@ -1,0 +1,286 @@
+#!/usr/bin/env python3
+"""Turns proofs that walk the code (Proof.antt) into Invariants.antt and Answers.antt, by the list of old and new names that
+`rt check --generated NAMES --old-names` writes for a crate.
+
+usage: port_answers.py NAMES/names.json CRATE [FUNCTION..]
+
+A proof that it does not wholly understand is turned as far as it goes, with lines `-- LEFT`. It proves nothing: rt check decides.
+"""
+
+import glob
+import json
+import os
+import re
+import sys
+
+PATH = re.compile(r"(?<![\w.·'-])([A-Za-zκ][\w'·-]*)((?:\.[\w'·-]+)+)")
+plain = lambda it: re.sub(r"[-_·]+", "-", it)
+
+
+def read(path):
+    with open(path, encoding="utf-8") as it:
+        return it.read()
+
+
+def write(path, text):
+    with open(path, "w", encoding="utf-8") as it:
+        it.write(text)
+
+
+def items(text):
+    """The file's items: each a list of lines, the first of which stands at the margin."""
+    them, now = [], []
+    for line in text.split("\n"):
+        if line[:1] not in (" ", "", "\t") and now and not continues(now, line):
+            them.append(now)
+            now = []
+        now.append(line)
+    if now:
+        them.append(now)
+    return [[line for line in it if line.strip()] for it in them if any(line.strip() for line in it)]
+
+
+def name_of(line):
+    it = re.match(r"(?:(?:abbrev|unfoldable|pub)\s+)*([^\s:]+)\s*:(?:\s|$)", line)
+    return it and it.group(1)
+
+
+def continues(now, line):
+    heads = [it for it in now if it[:1] not in (" ", "")]
+    if all(it.startswith("--") for it in heads):
+        return not line.startswith("use ")
+    name = next((name_of(it) for it in heads if name_of(it)), None)
+    if name is None:
+        return False
+    return line.startswith("unfolding") or line.split(" ")[0] == name or (line.split(" ")[0:1] == [name])
+
+
+class Names:
+    def __init__(self, entry):
+        self.entry = entry
+        self.places = {}
+        for i, (old, parent, step, callee, fields) in enumerate(entry["places"]):
+            self.places[old] = (i, parent, step, callee, dict(fields))
+        self.goals = {}
+        for (old, new), at in zip(entry["needs"], entry["asked_at"]):
+            self.goals[plain(old)] = (new, at[0])
+
+    def goal(self, old):
+        old = plain(old)
+        for it in (old, re.sub(r"^(overflow|nonzero)-", "", old)):
+            if it in self.goals:
+                return self.goals[it]
+        return None
+
+    def resolve(self, place, parts, root="c"):
+        """(place, None) where the path only goes back, else (None, text)."""
+        parts = list(parts)
+        while parts and parts[0] == "before":
+            place = self.places[place][1]
+            if place is None:
+                raise KeyError("before the start")
+            parts.pop(0)
+        if not parts:
+            return place, None
+        i, _, step, callee, fields = self.places[place]
+        head, rest = parts[0], parts[1:]
+        if plain(head) == plain(step[0]) and step[0]:
+            # a variable whose type tells something
+            if rest and rest[0] == "given":
+                for var, by in self.entry["typed"][i]:
+                    if by == step[0]:
+                        return None, ".".join([root, "type_inv", var] + rest[1:])
+            arm = self.entry["arms"][i]
+            if arm:
+                best = None
+                for field, by, path in arm[2]:
+                    if by == step[0] and rest[: len(path)] == path and (best is None or len(path) > len(best[1])):
+                        best = (field, path)
+                if best:
+                    return None, ".".join([root, arm[0], best[0]] + rest[len(best[1]) :])
+            if rest and rest[0] in fields:
+                rest[0] = fields[rest[0]]
+            return None, ".".join([root, step[1]] + rest)
+        if head in ("args", "requires", "ranges", "lifetimes", "well_formed", "utf8"):
+            return None, ".".join([root] + parts)
+        raise KeyError(head + " at " + place + ", which has " + step[0])
+
+
+LET = re.compile(r"let ([\w'·-]+) = ([\w'·-]+(?:\.[\w'·-]+)*) in\s*")
+
+
+def body_of(text, names, place, root="c", left=None):
+    aliases = {root: place}
+
+    def one(it):
+        head, tail = it.group(1), it.group(2)
+        if head not in aliases:
+            return it.group()
+        try:
+            at, path = names.resolve(aliases[head], tail[1:].split("."))
+        except (KeyError, TypeError) as e:
+            left.append(f"{it.group()}: {e}")
+            return it.group()
+        if path is None:
+            left.append(f"{it.group()} is a place")
+            return it.group()
+        return path
+
+    out, at = "", 0
+    while True:
+        it = LET.search(text, at)
+        if not it:
+            break
+        head, *tail = it.group(2).split(".")
+        if head in aliases:
+            try:
+                p, path = names.resolve(aliases[head], tail)
+            except (KeyError, TypeError) as e:
+                p, path = None, None
+                left.append(f"{it.group(2)}: {e}")
+            if p is not None:
+                out += PATH.sub(one, text[at : it.start()])
+                aliases[it.group(1)] = p
+                at = it.end()
+                continue
+        out += PATH.sub(one, text[at : it.end()])
+        at = it.end()
+    out += PATH.sub(one, text[at:])
+    # a place that is passed on whole: the record of all that is known
+    for alias in aliases:
+        if alias != root:
+            out = re.sub(r"(?<![\w.'·-])" + re.escape(alias) + r"(?![\w'·.-])", root, out)
+    out = re.sub(r"\(not-true _ (c\.[\w'·.-]+)\.true-raw\)", r"\1.true", out)
+    out = re.sub(r"\(not-false _ (c\.[\w'·.-]+)\.false-raw\)", r"\1.false", out)
+    return out
+
+
+def loop_binders(entry, old):
+    for (was, new), variables in entry["loops"]:
+        if plain(was) == plain(old):
+            i = [plain(x[0][0]) for x in entry["loops"]].index(plain(old))
+            changed = entry["changed"][i]
+            fixed = [v for v, c in zip(variables, changed) if not c]
+            moving = [v for v, c in zip(variables, changed) if c]
+            return new, [("l." + v) for v in fixed] + [("l.initial." + v) for v in moving] + [("l." + v) for v in moving]
+    return None, None
+
+
+TOK = re.compile(r"\"(?:[^\"\\]|\\.)*\"|[^\s(){}.;,@\"«»\[\]\\]+|\.|\s+|[(){};,@«»\[\]\\]")
+
+
+def substitute(text, table):
+    out, before = [], ""
+    for it in TOK.findall(text):
+        if it in table and before != ".":
+            out.append(table[it])
+        else:
+            out.append(it)
+        before = it
+    return "".join(out)
+
+
+def turn(path, entry, crate, function):
+    names = Names(entry)
+    text = read(path)
+    uses, invariants, answers, left = [], [], [], []
+    inv_uses = []
+    for lines in items(text):
+        comments = [it for it in lines if it.startswith("--")]
+        lines = [it for it in lines if not it.startswith("--")]
+        if not lines:
+            answers.append("\n".join(comments))
+            continue
+        head = lines[0]
+        if head.startswith("use "):
+            if re.search(r"\.(Statement|Tie|Lts[\w-]*)\b|borrow\.Author\.(Rules|Needs)\.", head):
+                if "Lts" in head:
+                    left.append(head)
+                continue
+            uses.append(" ".join(it.strip() for it in lines))
+            continue
+        name = name_of(head)
+        whole = "\n".join(lines)
+        typed, defined = [], []
+        for i, it in enumerate(lines):
+            if i and (it.split(" ")[0] == name or it.startswith("unfolding")):
+                defined = lines[i:]
+                break
+            typed.append(it)
+        type_text = re.sub(r"\s+", " ", " ".join(typed)).split(" : ", 1)[1] if " : " in " ".join(typed) else ""
+        unfolding = [it for it in defined if it.startswith("unfolding")]
+        more = []
+        body_lines = defined
+        if unfolding:
+            k = 1
+            while k < len(defined) and defined[k].startswith(" "):
+                more.append(defined[k])
+                k += 1
+            body_lines = defined[k:]
+            unfolding = [defined[0]] + more
+        body = "\n".join(body_lines)
+        m = re.match(r"tie\.(invariant|decreases)-?(\S*)$", type_text.strip())
+        if m:
+            it = re.match(r"(\S+)\s*((?:[^\s=]+\s+)*)=\s*", body)
+            binders = it.group(2).split()
+            new, those = loop_binders(entry, m.group(2))
+            if new is None or len(those) != len(binders):
+                left.append(f"{whole}  -- binders {those}")
+                continue
+            made = substitute(body[it.end() :], {b: t for b, t in zip(binders, those) if b != "_"})
+            invariants.append("\n".join(comments + [f"abbrev pub {m.group(1)}-{new} : goal.{m.group(1)}-{new}"] + unfolding + [f"{m.group(1)}-{new} l = {made}"]))
+            continue
+        m = re.match(r"tie\.Need-(\S+)", type_text.strip())
+        if m:
+            goal = names.goal(m.group(1))
+            if goal is None:
+                left.append(f"-- no goal {m.group(1)}:\n{whole}")
+                continue
+            new, place = goal
+            it = re.match(r"(\S+)\s*((?:[^\s=]+\s+)*)=\s*", body)
+            binders = [b for b in it.group(2).split()]
+            root = next((b for b in binders if b != "κs"), "c")
+            made = body_of(body[it.end() :], names, place, root, left)
+            if made.strip() == "search rules":
+                continue
+            nl = "\n    " if "\n" in made else " "
+            answers.append("\n".join(comments + [f"pub {new} : goal.{new}"] + unfolding + [f"{new} {root} ={nl}{made}"]))
+            continue
+        if re.search(r"-spec$|_spec$", name or ""):
+            continue
+        answers.append("\n".join(comments + lines))
+        if "tie." in whole or "Lts" in whole:
+            left.append(f"helper {name}")
+    folder = os.path.dirname(path)
+    module = f"Rattle.{crate}.proofs.{function}"
+    if invariants:
+        write(os.path.join(folder, "Invariants.antt"), "\n".join(uses + [f"use {module}.Given as goal"]) + "\n\n" + "\n\n".join(invariants) + "\n")
+    real = [a for a in answers if a.strip()]
+    if real or left:
+        write(
+            os.path.join(folder, "Answers.antt"),
+            "\n".join(uses + [f"use borrow.Author.Rules.{{rules}}", f"use {module}.Goals as goal"]) + "\n\n" + "\n\n".join(real) + "\n"
+            + "".join("-- LEFT " + it.replace("\n", "\n-- ") + "\n" for it in left),
+        )
+    os.remove(path)
+    if left:
+        print(function, *left, sep="\n   ")
+
+
+def main():
+    found = json.load(open(sys.argv[1]))
+    where = sys.argv[2]
+    crate = os.path.basename(os.path.abspath(where))
+    for path in sorted(glob.glob(os.path.join(where, "proofs", "**", "Proof.antt"), recursive=True)):
+        function = os.path.relpath(os.path.dirname(path), os.path.join(where, "proofs")).replace("/", ".")
+        if sys.argv[3:] and function not in sys.argv[3:]:
+            continue
+        entry = found.get(f"Rattle-{crate}-proofs.{function}.Lts")
+        if entry is None:
+            print("no names for", function)
+            continue
+        turn(path, entry, crate, function)
+
+
+if __name__ == "__main__":
+    main()
