@@ -1,4 +1,6 @@
 // The check and the name service for a program in C, as bindings/c/onnx_gate.h declares them.
+#![tactic(auto)]
+
 ghost use Rattle.std.specs.Prelude.{◌≡◌, length, replicate};
 ghost use Rattle.rules.specs.Verdict.{verdict};
 ghost use Rattle.gate.specs.Meaning.{meaning, indexed};

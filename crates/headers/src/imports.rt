@@ -22,7 +22,7 @@ use varint::Refusal;
 use wire::{Cursor, Field, Sought};
 
 // The domains that are imported: a listing of those with a name, and whether the default domain is one, which has none.
-#[derive(Drop)]
+#[derive(Clone, Copy)]
 pub struct Imports {
     pub listing: Listing,
     pub default: bool,

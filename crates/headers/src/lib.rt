@@ -1,4 +1,6 @@
 // What a model says of itself, and names that stood earlier in a list: found by a listing, or read again where they stand.
+#![tactic(auto)]
+
 mod earlier;
 mod headers;
 mod imports;

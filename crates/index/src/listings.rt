@@ -10,7 +10,7 @@ use wire::Field;
 
 // A list's own names are those that are remembered from `base` on, up to `top`: all of them if it is whole. A list that found no
 // room is not whole, and its names must be read again.
-#[derive(Drop)]
+#[derive(Clone, Copy)]
 pub struct Listing {
     pub base: usize,
     pub top: usize,

@@ -9,7 +9,7 @@ use wire::Field;
 
 // Whether it is the main graph; its model's IR version; the number of the fields that hold its nodes; whose imports serve, the model's or a function's; and
 // whether that is a function, whose attributes a reference may name.
-#[derive(Drop)]
+#[derive(Clone, Copy)]
 pub struct Surroundings {
     pub main: bool,
     pub version: u64,

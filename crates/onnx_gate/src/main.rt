@@ -1,5 +1,7 @@
 // The program: two files in, one line out. The contract of `reply` says what the line is; the rest reads and writes, of which no
 // contract can speak.
+#![tactic(auto)]
+
 mod decisions;
 mod files;
 

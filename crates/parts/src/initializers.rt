@@ -58,7 +58,7 @@ fn is_repeated(
 }
 
 // Where the records of a graph's inputs begin and end.
-#[derive(Drop)]
+#[derive(Clone, Copy)]
 struct Inputs {
     outer: usize,
     inner: usize,

@@ -1,5 +1,7 @@
 // An answer as the line that a program prints: "`accepted nodes 1 names 1` or `refused 30 at 13`", "The program's line for 23 ends ` first N`",
 // and "An accepted line gains ` odd N`".
+#![tactic(auto)]
+
 ghost use Rattle.std.specs.Prelude.{◌≡◌, ◌+◌, ◌≤◌, length};
 ghost use Rattle.std.proofs.Math.Seq.{paste};
 ghost use Rattle.io.specs.Counts.{IsPrefixLen};

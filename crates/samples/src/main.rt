@@ -1,5 +1,7 @@
 // Runs document 01's samples through the library, and prints a line each. What must be printed stands in `stdout`, which was derived
 // from the document and not from a run.
+#![tactic(auto)]
+
 mod rows;
 mod shortcuts;
 mod shown;

@@ -7,7 +7,7 @@ use varint::Refusal;
 pub use walks::first_walk;
 
 // The kinds of message that the first walk opens.
-#[derive(Drop)]
+#[derive(Clone, Copy)]
 pub enum Kind {
     Model,
     OperatorSetId,
@@ -24,7 +24,7 @@ pub enum Kind {
 }
 
 // What a field holds: document 01's v, s, f, or m with the message that it opens.
-#[derive(Drop)]
+#[derive(Clone, Copy)]
 pub enum Holds {
     Varint,
     Bytes,
@@ -34,7 +34,7 @@ pub enum Holds {
 
 // How often a field may stand in its message: once, any number of times, the same but perhaps packed, or once in place of all
 // the members of a "one of". A field that no row names is unknown.
-#[derive(Drop)]
+#[derive(Clone, Copy)]
 pub enum Row {
     Once(Holds),
     Many(Holds),

@@ -23,7 +23,7 @@ use wire::Field;
 
 // How the extra cells are used: the caller's seed, how many of them are for the scope, and what the rest holds of the imports, and of the attributes of the
 // function that is judged.
-#[derive(Drop)]
+#[derive(Clone, Copy)]
 pub struct Index {
     pub seed: u64,
     pub split: usize,

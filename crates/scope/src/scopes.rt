@@ -22,7 +22,7 @@ const PAGE: usize = 1024;
 
 // How far the second walk has come: how many records are used, the nodes so far, the most names visible together so far, and the odd
 // names so far.
-#[derive(Drop)]
+#[derive(Clone, Copy)]
 pub struct Progress {
     pub used: usize,
     pub nodes: u64,

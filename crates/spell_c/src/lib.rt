@@ -1,4 +1,6 @@
 // What bench/ links: the test of a name, for a program in C or Rust.
+#![tactic(auto)]
+
 ghost use Rattle.std.specs.Prelude.{◌≡◌};
 ghost use Rattle.spelling.specs.Spelling.{spelled};
 ghost use Rattle.spell_c.specs.Exports.{numbered};

@@ -1,4 +1,6 @@
 // What a message holds that needs nothing around it: its name, a declared type, the value of an attribute. And the answers of the rules.
+#![tactic(auto)]
+
 mod carriers;
 mod names;
 pub mod numbers;

@@ -1,5 +1,7 @@
 // What the wire is read with: varints, and parts of slices. Every function answers for any bytes and any numbers. What the answers
 // mean stands in specs/.
+#![tactic(auto)]
+
 mod slices;
 mod varints;
 

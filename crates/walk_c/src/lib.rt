@@ -1,4 +1,6 @@
 // What bench/ links: the first walk and the varint reader for a program in C or Rust.
+#![tactic(auto)]
+
 ghost use Rattle.std.specs.Prelude.{◌≡◌};
 ghost use Rattle.schema.specs.FirstWalk.{first_walk};
 ghost use Rattle.walk_c.specs.Exports.{answered, varint_count};

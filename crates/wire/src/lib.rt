@@ -1,5 +1,7 @@
 // The wire of Protocol Buffers, read where it stands: tags, fields, and the parts of a message. Nothing is copied or
 // decoded ahead, and every function answers for any bytes and any numbers. What the answers mean stands in specs/.
+#![tactic(auto)]
+
 mod cursors;
 mod messages;
 mod outlines;
@@ -10,7 +12,7 @@ pub use outlines::Outline;
 use varint::Refusal;
 
 // A tag that was read: where it begins, its field number and wire type, and where it ends.
-#[derive(Drop)]
+#[derive(Clone, Copy)]
 pub struct Tag {
     pub place: usize,
     pub number: u64,
@@ -20,7 +22,7 @@ pub struct Tag {
 
 // A field that was read: the place, number and wire type of its tag; the value of a varint, 0 for another wire type; and the
 // bytes from `start` to `next`, which hold a value of fixed size or the contents.
-#[derive(Drop)]
+#[derive(Clone, Copy)]
 pub struct Field {
     pub place: usize,
     pub number: u64,
@@ -31,7 +33,7 @@ pub struct Field {
 }
 
 // A reading place, and the end of the message around it. It moves on by whole fields.
-#[derive(Drop)]
+#[derive(Clone, Copy)]
 pub struct Cursor {
     pub at: usize,
     pub end: usize,

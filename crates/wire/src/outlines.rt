@@ -6,7 +6,7 @@ ghost use Rattle.wire.specs.Outline.{Outlines, marked};
 use crate::{Cursor, Field, FieldAnswer, Sought};
 
 // The places of six fields, in the order in which their numbers were given; the message's end for one that is not there.
-#[derive(Drop)]
+#[derive(Clone, Copy)]
 pub struct Outline {
     pub first: usize,
     pub second: usize,
