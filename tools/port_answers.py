@@ -55,6 +55,11 @@ def continues(now, line):
     return line.startswith("unfolding") or line.split(" ")[0] == name or (line.split(" ")[0:1] == [name])
 
 
+def same_step(head, step):
+    head, step = plain(head).lower(), plain(step).lower()
+    return bool(step) and head in (step, step + "-lem")
+
+
 class Names:
     def __init__(self, entry):
         self.entry = entry
@@ -72,19 +77,28 @@ class Names:
                 return self.goals[it]
         return None
 
+    def with_step(self, place, head):
+        """The place of that step: here, further back, or, where the older list of places was longer, further on towards the goal."""
+        for start in (place, self.at):
+            while start is not None:
+                if same_step(head, self.places[start][2][0]):
+                    return start
+                start = self.places[start][1]
+        return None
+
     def resolve(self, place, parts, root="c"):
         """(place, None) where the path only goes back, else (None, text)."""
         parts = list(parts)
         while parts and parts[0] == "before":
-            place = self.places[place][1]
-            if place is None:
-                raise KeyError("before the start")
+            # today's list of places can be shorter than the older one
+            place = self.places[place][1] or place
             parts.pop(0)
         if not parts:
             return place, None
-        i, _, step, callee, fields = self.places[place]
         head, rest = parts[0], parts[1:]
-        if plain(head) == plain(step[0]) and step[0]:
+        place = self.with_step(place, head) or place
+        i, _, step, callee, fields = self.places[place]
+        if same_step(head, step[0]):
             # a variable whose type tells something
             if rest and rest[0] == "given":
                 for var, by in self.entry["typed"][i]:
@@ -101,6 +115,7 @@ class Names:
             if rest and rest[0] in fields:
                 rest[0] = fields[rest[0]]
             return None, ".".join([root, step[1]] + rest)
+        head = parts[0] = head.replace("-", "_") if head in ("well-formed", "type-inv") else head
         if head in ("args", "requires", "ranges", "lifetimes", "well_formed", "utf8"):
             return None, ".".join([root] + parts)
         raise KeyError(head + " at " + place + ", which has " + step[0])
@@ -110,6 +125,7 @@ LET = re.compile(r"let ([\w'·-]+) = ([\w'·-]+(?:\.[\w'·-]+)*) in\s*")
 
 
 def body_of(text, names, place, root="c", left=None):
+    names.at = place
     aliases = {root: place}
 
     def one(it):
@@ -171,8 +187,10 @@ TOK = re.compile(r"\"(?:[^\"\\]|\\.)*\"|[^\s(){}.;,@\"«»\[\]\\]+|\.|\s+|[(){};
 
 def substitute(text, table):
     out, before = [], ""
-    for it in TOK.findall(text):
-        if it in table and before != ".":
+    tokens = TOK.findall(text)
+    for i, it in enumerate(tokens):
+        is_field = "".join(tokens[i + 1 : i + 3]).strip() == "="
+        if it in table and before != "." and not is_field:
             out.append(table[it])
         else:
             out.append(it)

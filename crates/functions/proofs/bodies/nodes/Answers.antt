@@ -1,0 +1,81 @@
+use Prim.Native.Nat.{◌-◌}
+use mathlib.Core.Path.{refl, ◌∙◌}
+use mathlib.Core.Bool.{false}
+use lib.ListN.{length}
+use Rattle.varint.specs.Outcome.{each}
+use Rattle.wire.specs.Answers.{contents_of}
+use Rattle.wire.proofs.Along.{all_from}
+use Rattle.schema.specs.Numbers.{Function-node, Node-name}
+use Rattle.schema.proofs.Opened.{function_node}
+use Rattle.rules.specs.Verdict.{fills}
+use Rattle.rules.specs.Count.{node_names, names_in}
+use Rattle.scope.specs.Scope.{walk_in}
+use Rattle.scope.specs.Recall.{Minds}
+use Rattle.scope.proofs.RecallLaws.{minded_then, minded_fewer, minds_higher}
+use Rattle.messages.specs.Around.{imports_of, attributes_of}
+use Rattle.messages.specs.Again.{node_again}
+use Rattle.parts.proofs.ListsLaws.{Lists, lists_start, lists_fits, lists_found, lists_next, lists_minds}
+use Rattle.cycle.proofs.CycleLaws.{Going, enters_low, own_contents, going_start, going_falls, going_enters, going_countable, going_goes}
+use Rattle.cycle.proofs.PromiseLaws.{promised_and, loop_done, loop_stops}
+use Rattle.cycle.proofs.AttributeLaws.{Nested}
+use Rattle.cycle.proofs.GraphLaws.{nodes_count}
+use Rattle.functions.proofs.BodyLaws.{nodes_by, nodes_countable}
+use borrow.Author.Rules.{rules}
+use Rattle.functions.proofs.bodies.nodes.Goals as goal
+
+pub loop-n-init : goal.loop-n-init
+unfolding contents_of
+loop-n-init c =
+    rw c.contents-c.ensures (
+      going_start _ _ _ _ _ _ _ c.requires.0.ends,
+      lists_start _ _ _ c.requires.1.0.recalls c.requires.1.0.fits _ refl,
+      c.requires.1.0,
+    )
+
+pub returns-in_default : goal.returns-in_default
+returns-in_default c = promised_and (loop_done c.loop-n.invariant.0 c.next_of-sought.ensures c.requires.0 c.in_default.is (nodes_by _ _ _ _ _ _)) c.loop-n.invariant.1.minded
+
+pub node-step-requires : goal.node-step-requires
+node-step-requires c = (
+  going_enters c.loop-n.invariant.0 c.next_of-sought.ensures c.in-Found.is c.requires.0.short c.requires.0.walked (own_contents _) function_node
+      (enters_low c.requires.0),
+  (
+    minds_higher c.loop-n.invariant.2 c.loop-n.invariant.1.above (lists_fits c.loop-n.invariant.1),
+    (
+      rw c.requires.1.1.1 (lists_found c.loop-n.invariant.1 c.next_of-sought.ensures c.in-Found.is),
+      going_countable c.loop-n.invariant.0 c.next_of-sought.ensures c.in-Found.is (nodes_countable _ _ _ _ c.requires.1.1.0),
+    ),
+  ),
+)
+
+pub returns-in_default-step : goal.returns-in_default-step
+returns-in_default-step c =
+    promised_and (loop_stops c.loop-n.invariant.0 c.next_of-sought.ensures c.in-Found.is _ c.node-step.ensures.0 c.node-step.ensures.1.0
+    c.node-step.ensures.1.1.1.0 c.in_default-step.is (nodes_by _ _ _ _ _ _))
+    (minded_then c.loop-n.invariant.1.minded (minded_fewer c.loop-n.invariant.1.above c.node-step.ensures.1.1.1.1))
+
+pub list-l-requires : goal.list-l-requires
+list-l-requires c = (c.node-step.ensures.1.1.1.1.recalls.both, (c.node-step.ensures.1.1.1.1.held.fits, c.requires.0.short))
+
+pub loop-n-smaller : goal.loop-n-smaller
+loop-n-smaller c = going_falls c.loop-n.invariant.0 c.next_of-sought.ensures c.in-Found.is
+
+pub loop-n-preserved : goal.loop-n-preserved
+loop-n-preserved c = (
+  going_goes c.loop-n.invariant.0 c.next_of-sought.ensures c.in-Found.is _ c.node-step.ensures.0 c.node-step.ensures.1.0
+      c.node-step.ensures.1.1.1.0 (nodes_count _ _ _ _) c.node-step.ensures.1.1.0 c.in-Went.is,
+  lists_next c.loop-n.invariant.1 c.next_of-sought.ensures c.in-Found.is c.node-step.ensures.1.1.1.1 c.list-l.ensures,
+  lists_minds c.loop-n.invariant.1 c.next_of-sought.ensures c.in-Found.is c.loop-n.invariant.2 c.node-step.ensures.1.1.1.1 c.list-l.ensures,
+)
+
+pub shape_of-cells-in_default : goal.shape_of-cells-in_default
+shape_of-cells-in_default c = c.loop-n.invariant.0.adding.kept.size
+
+pub shape_of-extra-in_default : goal.shape_of-extra-in_default
+shape_of-extra-in_default c = c.loop-n.invariant.1.minded.size
+
+pub shape_of-cells-in_default-step : goal.shape_of-cells-in_default-step
+shape_of-cells-in_default-step c = c.node-step.ensures.1.1.1.0.size ∙ c.loop-n.invariant.0.adding.kept.size
+
+pub shape_of-extra-in_default-step : goal.shape_of-extra-in_default-step
+shape_of-extra-in_default-step c = c.node-step.ensures.1.1.1.1.size ∙ c.loop-n.invariant.1.minded.size

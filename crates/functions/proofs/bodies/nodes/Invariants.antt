@@ -1,0 +1,33 @@
+use Prim.Native.Nat.{◌-◌}
+use mathlib.Core.Path.{refl, ◌∙◌}
+use mathlib.Core.Bool.{false}
+use lib.ListN.{length}
+use Rattle.varint.specs.Outcome.{each}
+use Rattle.wire.specs.Answers.{contents_of}
+use Rattle.wire.proofs.Along.{all_from}
+use Rattle.schema.specs.Numbers.{Function-node, Node-name}
+use Rattle.schema.proofs.Opened.{function_node}
+use Rattle.rules.specs.Verdict.{fills}
+use Rattle.rules.specs.Count.{node_names, names_in}
+use Rattle.scope.specs.Scope.{walk_in}
+use Rattle.scope.specs.Recall.{Minds}
+use Rattle.scope.proofs.RecallLaws.{minded_then, minded_fewer, minds_higher}
+use Rattle.messages.specs.Around.{imports_of, attributes_of}
+use Rattle.messages.specs.Again.{node_again}
+use Rattle.parts.proofs.ListsLaws.{Lists, lists_start, lists_fits, lists_found, lists_next, lists_minds}
+use Rattle.cycle.proofs.CycleLaws.{Going, enters_low, own_contents, going_start, going_falls, going_enters, going_countable, going_goes}
+use Rattle.cycle.proofs.PromiseLaws.{promised_and, loop_done, loop_stops}
+use Rattle.cycle.proofs.AttributeLaws.{Nested}
+use Rattle.cycle.proofs.GraphLaws.{nodes_count}
+use Rattle.functions.proofs.BodyLaws.{nodes_by, nodes_countable}
+use Rattle.functions.proofs.bodies.nodes.Given as goal
+
+abbrev pub invariant-loop-n : goal.invariant-loop-n
+invariant-loop-n l = Going l.model Function-node l.initial.extra.next l.initial.extra.start (node_names l.model (names_in l.model l.f false))
+    (λ size. node_again l.model (fills size) (Nested l.model l.f l.initial.cells size) l.initial.cells l.initial.extra)
+    (each (node_again l.model (fills (length l.ix)) (Nested l.model l.f l.initial.cells (length l.ix)) l.initial.cells l.initial.extra) (walk_in l.model l.ix l.initial.q)
+    (all_from l.model Function-node l.initial.extra.next l.initial.extra.start)) l.ix l.initial.q l.cells l.q l.c
+    × Lists l.model l.left l.s Function-node Node-name l.initial.extra l.top l.cells l.extra l.l l.c × Minds l.model (imports_of l.model l.initial.cells) (attributes_of l.model l.initial.cells) l.left l.s l.cells l.extra
+
+abbrev pub decreases-loop-n : goal.decreases-loop-n
+decreases-loop-n l = l.initial.extra.next - l.c.at

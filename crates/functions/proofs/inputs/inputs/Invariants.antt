@@ -1,0 +1,24 @@
+use Prim.Native.Nat.{◌-◌}
+use mathlib.Core.Path.{◌∙◌}
+use lib.ListN.{length}
+use Rattle.varint.specs.Outcome.{each}
+use Rattle.wire.proofs.Along.{all_from, along_start, along_contents}
+use Rattle.schema.specs.Numbers.{Function-input}
+use Rattle.rules.specs.Verdict.{fills}
+use Rattle.rules.specs.Function.{function_input}
+use Rattle.scope.specs.Scope.{walk_in}
+use Rattle.scope.specs.Recall.{Recalled}
+use Rattle.scope.proofs.RecallLaws.{recalled_none, recalled_then}
+use Rattle.scope.proofs.RecordLaws.{function_input_lem}
+use Rattle.scope.proofs.StepLaws.{Adding, adding_start, adding_done, adding_falls, adding_countable, from_contents, adding_direct, adding_stops, adding_goes}
+use Rattle.messages.specs.Again.{field_names}
+use Rattle.functions.proofs.InputLaws.{input_counts}
+use Rattle.functions.proofs.inputs.inputs.Given as goal
+
+abbrev pub invariant-loop-name : goal.invariant-loop-name
+invariant-loop-name l = Adding l.model Function-input l.initial.c.end l.initial.c.at (field_names l.model) (λ n. function_input l.model (fills n))
+    (each (function_input l.model (fills (length l.ix))) (walk_in l.model l.ix l.initial.q) (all_from l.model Function-input l.initial.c.end l.initial.c.at)) l.ix l.initial.q l.cells l.q l.c
+    × Recalled l.model l.initial.extra l.cells l.initial.cells l.extra
+
+abbrev pub decreases-loop-name : goal.decreases-loop-name
+decreases-loop-name l = l.initial.c.end - l.c.at

@@ -1,0 +1,50 @@
+use Prim.Native.Nat.{◌-◌}
+use native.Mathlib.Omega.{arith}
+use mathlib.Core.Path.{◌≡◌, ap, ◌∙◌}
+use Rattle.wire.specs.Answers.{contents_of}
+use Rattle.wire.specs.declared.Cursor.{Cursor}
+use Rattle.wire.proofs.Along.{along_contents}
+use Rattle.schema.specs.Numbers.{Function-output}
+use Rattle.rules.specs.Walk.{Walk}
+use Rattle.rules.specs.Function.{function_output}
+use Rattle.values.specs.Answers.{more, tally_says}
+use Rattle.values.proofs.TallyLaws.{Tallying, tallying_start, tallying_done, tallying_stops, tallying_goes, tallying_fits, tallying_falls}
+use Rattle.scope.specs.Scope.{scope_in}
+use Rattle.messages.specs.Again.{field_names}
+use Rattle.nodes.proofs.NodeCounts.{inputs_few}
+use Rattle.functions.proofs.InputLaws.{output_few}
+use borrow.Author.Rules.{rules}
+use Rattle.functions.proofs.outputs.outputs.Goals as goal
+
+pub loop-name-init : goal.loop-name-init
+loop-name-init c = tallying_start _ _ _ _ _ _
+
+pub returns-in_default : goal.returns-in_default
+unfolding tally_says
+returns-in_default c = λ w s. tallying_done c.loop-name.invariant c.next_of-sought.ensures c.in_default.is w s ∙ along_contents _ _ _ _ _ c.contents-c.ensures
+
+pub returns-in_default-tally : goal.returns-in_default-tally
+unfolding more
+returns-in_default-tally c =
+    λ w s. tallying_stops c.loop-name.invariant c.next_of-sought.ensures c.in-Found.is (λ v h. h) c.output-tally.ensures
+    c.in_default-tally.is w s
+    ∙ along_contents _ _ _ _ _ c.contents-c.ensures
+
+pub overflow_add-odd : goal.overflow_add-odd
+unfolding contents_of
+overflow_add-odd c =
+    let few = tallying_fits c.loop-name.invariant c.next_of-sought.ensures c.in-Found.is
+    (output_few _ _ _ c.output-tally.ensures c.in-Counted.is) in
+    let all = inputs_few c.args.model.now Function-output c.contents-c.result.end c.contents-c.result.at in
+    let ends = ap (λ (x : Cursor). x.end) c.contents-c.ensures in
+    let good = c.well_formed.1.1.1.1.1.0.1.1.1.1.1.1.1.0.1 in
+    omega arith
+
+pub loop-name-smaller : goal.loop-name-smaller
+loop-name-smaller c = tallying_falls c.loop-name.invariant c.next_of-sought.ensures c.in-Found.is
+
+pub loop-name-preserved : goal.loop-name-preserved
+unfolding more
+loop-name-preserved c =
+    tallying_goes c.loop-name.invariant c.next_of-sought.ensures c.in-Found.is (λ v h. h) c.output-tally.ensures c.in-Counted.is
+    (output_few _ _ _ c.output-tally.ensures c.in-Counted.is)

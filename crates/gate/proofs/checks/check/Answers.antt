@@ -1,0 +1,12 @@
+use native.Mathlib.Omega.{arith}
+use Prim.Native.Nat.{ℕ}
+use mathlib.Core.Path.{refl, ap, ◌∙◌}
+use lib.ListN.{replicate}
+use borrow.Author.Rules.{rules}
+use Rattle.gate.proofs.checks.check.Goals as goal
+
+pub judged-answer-requires : goal.judged-answer-requires
+judged-answer-requires c = (refl, omega (arith, c.unread.ensures.1))
+
+pub returns : goal.returns
+returns c = (c.judged-answer.ensures.0, c.clear.ensures ∙ ap (λ (n : ℕ). replicate n 0) c.judged-answer.ensures.1)

@@ -1,0 +1,18 @@
+use Prim.Native.Nat.{◌-◌}
+use mathlib.Core.Path.{refl, ◌∙◌}
+use mathlib.Core.List.{map}
+use Rattle.varint.specs.Bytes.{member}
+use Rattle.operators.specs.Operators.{domain}
+use Rattle.wire.proofs.Along.{all_from}
+use Rattle.headers.specs.Earlier.{before}
+use Rattle.headers.specs.Imports.{import_of}
+use Rattle.headers.proofs.EarlierLaws.{Rereading, reread_done, reread_past, reread_here, reread_next, reread_falls}
+use Rattle.headers.proofs.ImportLaws.{imports_again, same_import}
+use Rattle.headers.proofs.imports.is_imported_before.Given as goal
+
+abbrev pub invariant-loop-f : goal.invariant-loop-f
+invariant-loop-f l = Rereading l.model l.number l.initial.c.end (import_of l.model) l.place (domain l.d)
+    (member (domain l.d) (map (import_of l.model) (before l.place (all_from l.model l.number l.initial.c.end l.initial.c.at)))) l.c
+
+abbrev pub decreases-loop-f : goal.decreases-loop-f
+decreases-loop-f l = l.initial.c.end - l.c.at

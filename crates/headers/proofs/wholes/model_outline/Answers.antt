@@ -1,0 +1,6 @@
+use Rattle.headers.proofs.HeaderLaws.{outlined}
+use borrow.Author.Rules.{rules}
+use Rattle.headers.proofs.wholes.model_outline.Goals as goal
+
+pub returns : goal.returns
+returns c = outlined _ c.whole-m.ensures c.outline.ensures

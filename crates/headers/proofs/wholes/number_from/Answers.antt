@@ -1,0 +1,8 @@
+use mathlib.Core.Path.{◌∙◌}
+use Rattle.wire.proofs.OutlineLaws.{started_first}
+use Rattle.wire.proofs.MessageLaws.{number_in}
+use borrow.Author.Rules.{rules}
+use Rattle.headers.proofs.wholes.number_from.Goals as goal
+
+pub returns : goal.returns
+returns c = c.value.ensures ∙ number_in _ _ _ _ (started_first _ _ _ c.requires _ c.first_from.ensures)

@@ -1,0 +1,7 @@
+use mathlib.Core.Path.{ap, ◌∙◌}
+use Rattle.operators.specs.Operators.{domain}
+use borrow.Author.Rules.{rules}
+use Rattle.identities.proofs.functions.domain_of.Goals as goal
+
+pub returns : goal.returns
+returns c = c.canonical.ensures ∙ ap domain c.bytes_of.ensures

@@ -1,0 +1,17 @@
+use native.Mathlib.Omega.{arith}
+use mathlib.Core.Path.{refl, sym}
+use lib.ListN.{get_or-eq_default}
+use Rattle.varint.specs.Bytes.{byte}
+use borrow.Author.Rules.{rules}
+use Rattle.index.proofs.buckets.byte_at.Goals as goal
+
+pub overflow_cast-result : goal.overflow_cast-result
+overflow_cast-result c = omega (arith, c.type_inv.s c.args.i)
+
+pub returns-then-i-s : goal.returns-then-i-s
+unfolding byte
+returns-then-i-s c = (refl, omega (arith, c.type_inv.s c.args.i))
+
+pub returns : goal.returns
+unfolding byte
+returns c = (sym (get_or-eq_default c.args.s.now 0 c.if-i-s.false), omega arith)

@@ -1,0 +1,15 @@
+use Rattle.index.proofs.MemoryLaws.{replaced_added, replaced_full}
+use Rattle.index.proofs.ChainLaws.{capacity_lt}
+use lib.ListN.{length}
+use native.Mathlib.Omega.{arith}
+use borrow.Author.Rules.{rules}
+use Rattle.index.proofs.memories.replace.Goals as goal
+
+pub overflow_add-result : goal.overflow_add-result
+overflow_add-result c = omega (arith, c.requires.0.fits, capacity_lt (length c.args.table.now))
+
+pub returns-in-Added : goal.returns-in-Added
+returns-in-Added c = replaced_added c.requires.1 c.pop_to.ensures _ _ _ c.push.ensures c.in-Added.is
+
+pub returns-in-Full : goal.returns-in-Full
+returns-in-Full c = replaced_full c.requires.1 c.pop_to.ensures _ _ _ c.push.ensures c.in-Full.is

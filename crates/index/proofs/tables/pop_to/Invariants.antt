@@ -1,0 +1,8 @@
+use Rattle.index.proofs.StoreLaws.{Popping, popping_start, popping_next, popping_end}
+use Rattle.index.proofs.tables.pop_to.Given as goal
+
+abbrev pub invariant-loop-i : goal.invariant-loop-i
+invariant-loop-i l = Popping l.model l.count l.seed l.size l.used l.table l.i
+
+abbrev pub decreases-loop-i : goal.decreases-loop-i
+decreases-loop-i l = l.i

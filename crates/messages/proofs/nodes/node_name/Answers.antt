@@ -1,0 +1,38 @@
+use mathlib.Core.Path.{◌∙◌}
+use Rattle.wire.proofs.MessageLaws.{missing, found}
+use Rattle.headers.specs.Earlier.{earlier_in}
+use Rattle.values.specs.Answers.{tally_says}
+use Rattle.values.proofs.NameLaws.{empty_some}
+use Rattle.messages.proofs.NodeLaws.{node_nameless, node_unnamed, node_misnamed, node_twice, node_named}
+use borrow.Author.Rules.{rules}
+use Rattle.messages.proofs.nodes.node_name.Goals as goal
+
+pub returns-in_default : goal.returns-in_default
+unfolding tally_says
+returns-in_default c = λ w. node_nameless _ _ _ w (missing _ _ _ _ c.first_of.ensures c.in_default.is)
+
+pub returns-then-text-eq0 : goal.returns-then-text-eq0
+unfolding tally_says
+returns-then-text-eq0 c = λ w. node_unnamed _ _ _ w (found _ _ _ _ c.first_of.ensures c.in-Found.is) c.text-text.ensures c.if-text-eq0.true
+
+pub returns-in_default-tally : goal.returns-in_default-tally
+returns-in_default-tally c =
+    λ w. node_misnamed _ _ _ w (found _ _ _ _ c.first_of.ensures c.in-Found.is) c.text-text.ensures c.if-text-eq0.false
+    (c.tested-tally.ensures w) c.in_default-tally.is
+
+pub returns-then-is_listed : goal.returns-then-is_listed
+unfolding earlier_in
+returns-then-is_listed c =
+    λ w. c.uncounted.ensures w
+    ∙ node_twice _ _ _ w (found _ _ _ _ c.first_of.ensures c.in-Found.is) c.text-text.ensures c.if-text-eq0.false
+    (c.tested-tally.ensures w) c.in-Counted.is c.is_listed.ensures c.if-is_listed.true
+
+pub returns : goal.returns
+unfolding tally_says earlier_in
+returns c =
+    λ w. node_named _ _ _ w (found _ _ _ _ c.first_of.ensures c.in-Found.is) c.text-text.ensures c.if-text-eq0.false
+    (c.tested-tally.ensures w) c.in-Counted.is c.is_listed.ensures c.if-is_listed.false
+
+pub is_listed-requires : goal.is_listed-requires
+unfolding earlier_in
+is_listed-requires c = (c.requires, empty_some _ c.if-text-eq0.false)

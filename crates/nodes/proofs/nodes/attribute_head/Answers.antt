@@ -1,0 +1,6 @@
+use Rattle.scope.proofs.SplitLaws.{others_lent}
+use borrow.Author.Rules.{rules}
+use Rattle.nodes.proofs.nodes.attribute_head.Goals as goal
+
+pub attribute_rules-requires : goal.attribute_rules-requires
+attribute_rules-requires c = rw (others_lent _ _) c.requires.1

@@ -1,0 +1,6 @@
+use Rattle.scope.proofs.SplitLaws.{others_lent}
+use borrow.Author.Rules.{rules}
+use Rattle.nodes.proofs.nodes.head.Goals as goal
+
+pub node_head-requires : goal.node_head-requires
+node_head-requires c = rw (others_lent _ _) c.requires.1

@@ -1,0 +1,20 @@
+use mathlib.Core.Path.{ap, ◌∙◌}
+use Rattle.values.specs.Answers.{more, tally_says}
+use Rattle.nodes.proofs.NodeCounts.{head_few, inputs_most}
+use Rattle.nodes.proofs.NodeLaws.{rules_headed, rules_inputs}
+use Rattle.values.proofs.TallyLaws.{addable}
+use borrow.Author.Rules.{rules}
+use Rattle.nodes.proofs.nodes.node_rules.Goals as goal
+
+pub head-tally-requires : goal.head-tally-requires
+head-tally-requires c = (c.requires.0.both.fits, (c.requires.1.0, c.requires.1.1.0))
+
+pub returns-in_default : goal.returns-in_default
+returns-in_default c = λ w s. rules_headed _ _ _ _ w (c.head-tally.ensures w) c.in_default.is
+
+pub adding-requires : goal.adding-requires
+adding-requires c = addable _ _ 2 _ (head_few _ _ _ _ c.head-tally.ensures c.in-Counted.is) (λ l i. inputs_most _ _ _ c.node_inputs.ensures i) c.requires.1.1.1
+
+pub returns : goal.returns
+unfolding more
+returns c = λ w s. ap (tally_says w) c.adding.ensures ∙ rules_inputs _ _ _ _ w (c.head-tally.ensures w) c.in-Counted.is _ (c.node_inputs.ensures (more w _) s)

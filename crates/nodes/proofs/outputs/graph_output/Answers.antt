@@ -1,0 +1,29 @@
+use mathlib.Core.Path.{ap, ◌∙◌}
+use borrow.Author.Tests.{not-true, not-false}
+use Rattle.varint.specs.Lists.{is_empty}
+use Rattle.values.specs.Answers.{more, tally_says}
+use Rattle.values.proofs.NameLaws.{named_some, named_few}
+use Rattle.nodes.proofs.OutputLaws.{listed_unnamed, listed_hidden, listed_visible, listed_fits}
+use borrow.Author.Rules.{rules}
+use Rattle.nodes.proofs.outputs.graph_output.Goals as goal
+
+pub sees-requires : goal.sees-requires
+sees-requires c = (c.requires.0, ap is_empty c.text.ensures ∙ named_some _ _ _ _ _ c.read_name.ensures c.in-Named.is)
+
+pub returns-then-not-sees : goal.returns-then-not-sees
+returns-then-not-sees c =
+    λ k w e s. c.uncounted.ensures w
+    ∙ listed_hidden _ k w _ _ c.read_name.ensures c.in-Named.is c.text.ensures s c.sees.ensures c.if-not-sees.true
+
+pub adding-requires : goal.adding-requires
+adding-requires c = listed_fits _ _ _ _ c.main_type.ensures (named_few _ _ _ _ _ c.read_name.ensures c.in-Named.is) c.requires.1
+
+pub returns-in-Refused : goal.returns-in-Refused
+unfolding tally_says
+returns-in-Refused c = λ k w e s. listed_unnamed _ k w _ _ c.read_name.ensures c.in-Refused.is
+
+pub returns-else-not-sees : goal.returns-else-not-sees
+returns-else-not-sees c =
+    λ k w e s. ap (tally_says w) c.adding.ensures
+    ∙ listed_visible _ k w _ _ c.read_name.ensures c.in-Named.is c.text.ensures s c.sees.ensures c.if-not-sees.false _
+    (c.main_type.ensures k (more w _) e)

@@ -1,0 +1,43 @@
+use native.Mathlib.Omega.{arith}
+use mathlib.Core.Path.{sym, ap, ◌∙◌}
+use Rattle.varint.specs.Lists.{is_empty}
+use Rattle.values.proofs.NameLaws.{empty_some, tested_few}
+use Rattle.scope.specs.Scope.{step_says, grows, Countable}
+use Rattle.scope.proofs.ScopeLaws.{keeps_all}
+use Rattle.scope.proofs.RecallLaws.{recalled_none}
+use Rattle.messages.specs.Again.{field_names}
+use Rattle.nodes.proofs.OutputLaws.{output_out, output_bad, output_new, odd_says}
+use Rattle.scope.proofs.StepLaws.{odd_grows, odd_keeps}
+use borrow.Author.Rules.{rules}
+use Rattle.nodes.proofs.outputs.node_output.Goals as goal
+
+pub returns-then-text-eq0 : goal.returns-then-text-eq0
+unfolding step_says grows
+returns-then-text-eq0 c = (output_out _ _ _ _ c.text-text.ensures c.if-text-eq0.true, (omega arith, (keeps_all _ _, recalled_none c.requires.1.1.1)))
+
+pub with_odd-requires : goal.with_odd-requires
+unfolding Countable field_names
+with_odd-requires c =
+    let few = tested_few _ c.tested.ensures c.in-Counted.is in
+    let room = c.requires.1.0 in
+    omega arith
+
+pub define-requires : goal.define-requires
+define-requires c = (c.requires.0, (ap is_empty (sym c.text-text.ensures) ∙ empty_some _ c.if-text-eq0.false, c.requires.1.1))
+
+pub returns-in-Refused : goal.returns-in-Refused
+unfolding step_says grows
+returns-in-Refused c = (
+  output_bad _ _ _ _ c.text-text.ensures c.if-text-eq0.false (c.tested.ensures _) c.in-Refused.is,
+  (tt, (keeps_all _ _, recalled_none c.requires.1.1.1)),
+)
+
+pub returns-in-Counted : goal.returns-in-Counted
+returns-in-Counted c = (
+  odd_says _ _ c.with_odd.ensures _ _ _ _ _ _ c.define.ensures.0
+      ∙ output_new _ _ _ _ c.text-text.ensures c.if-text-eq0.false (c.tested.ensures _) c.in-Counted.is,
+  (
+    odd_grows _ _ c.with_odd.ensures _ c.define.ensures.1.0,
+    (odd_keeps _ _ c.with_odd.ensures c.define.ensures.1.1.0, c.define.ensures.1.1.1),
+  ),
+)

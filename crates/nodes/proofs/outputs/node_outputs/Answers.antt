@@ -1,0 +1,56 @@
+use Prim.Native.Nat.{◌-◌}
+use mathlib.Core.Path.{◌∙◌}
+use lib.ListN.{length}
+use Rattle.varint.specs.Outcome.{each}
+use Rattle.wire.proofs.Along.{all_from, along_start, along_contents}
+use Rattle.schema.specs.Numbers.{Node-output}
+use Rattle.rules.specs.Verdict.{fills}
+use Rattle.rules.specs.Node.{node_output}
+use Rattle.scope.specs.Scope.{walk_in}
+use Rattle.scope.specs.Recall.{Recalled}
+use Rattle.scope.proofs.RecallLaws.{recalled_none, recalled_then}
+use Rattle.scope.proofs.RecordLaws.{node_output_lem}
+use Rattle.scope.proofs.StepLaws.{Adding, adding_start, adding_done, adding_falls, adding_countable, from_contents, adding_direct, adding_stops, adding_goes}
+use Rattle.messages.specs.Again.{field_names}
+use Rattle.nodes.proofs.OutputLaws.{output_counts}
+use borrow.Author.Rules.{rules}
+use Rattle.nodes.proofs.outputs.node_outputs.Goals as goal
+
+pub loop-f-init : goal.loop-f-init
+loop-f-init c = (adding_start _ _ _ _ _ _ _ (along_start _ _ _ _ _), recalled_none c.requires.1.1.1)
+
+pub shape_of-extra-in_default : goal.shape_of-extra-in_default
+shape_of-extra-in_default c = c.loop-f.invariant.1.size
+
+pub returns-in_default : goal.returns-in_default
+returns-in_default c =
+    let d = adding_done c.loop-f.invariant.0 c.next_of-sought.ensures c.in_default.is in
+    (d.0 ∙ along_contents _ _ _ _ _ c.contents-c.ensures, (d.1.0, (d.1.1, c.loop-f.invariant.1)))
+
+pub node_output-step-requires : goal.node_output-step-requires
+node_output-step-requires c = (
+  adding_direct c.loop-f.invariant.0 c.next_of-sought.ensures c.in-Found.is c.requires.1.0 c.contents-c.ensures node_output_lem,
+  (
+    adding_countable c.loop-f.invariant.0 c.next_of-sought.ensures c.in-Found.is
+        (from_contents _ _ _ _ _ c.contents-c.ensures c.requires.1.1.0),
+    (c.requires.0, c.loop-f.invariant.1.recalls),
+  ),
+)
+
+pub returns-in_default-step : goal.returns-in_default-step
+returns-in_default-step c =
+    let d = adding_stops c.loop-f.invariant.0 c.next_of-sought.ensures c.in-Found.is _ c.node_output-step.ensures.0
+    c.node_output-step.ensures.1.0 c.node_output-step.ensures.1.1.0 c.in_default-step.is in (
+      d.0 ∙ along_contents _ _ _ _ _ c.contents-c.ensures,
+      (d.1.0, (d.1.1, recalled_then c.loop-f.invariant.1 c.node_output-step.ensures.1.1.1)),
+    )
+
+pub loop-f-smaller : goal.loop-f-smaller
+loop-f-smaller c = adding_falls c.loop-f.invariant.0 c.next_of-sought.ensures c.in-Found.is
+
+pub loop-f-preserved : goal.loop-f-preserved
+loop-f-preserved c = (
+  adding_goes c.loop-f.invariant.0 c.next_of-sought.ensures c.in-Found.is _ c.node_output-step.ensures.0
+      c.node_output-step.ensures.1.0 c.node_output-step.ensures.1.1.0 (output_counts _) c.in-Went.is,
+  recalled_then c.loop-f.invariant.1 c.node_output-step.ensures.1.1.1,
+)

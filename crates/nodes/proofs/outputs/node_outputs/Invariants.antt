@@ -1,0 +1,24 @@
+use Prim.Native.Nat.{◌-◌}
+use mathlib.Core.Path.{◌∙◌}
+use lib.ListN.{length}
+use Rattle.varint.specs.Outcome.{each}
+use Rattle.wire.proofs.Along.{all_from, along_start, along_contents}
+use Rattle.schema.specs.Numbers.{Node-output}
+use Rattle.rules.specs.Verdict.{fills}
+use Rattle.rules.specs.Node.{node_output}
+use Rattle.scope.specs.Scope.{walk_in}
+use Rattle.scope.specs.Recall.{Recalled}
+use Rattle.scope.proofs.RecallLaws.{recalled_none, recalled_then}
+use Rattle.scope.proofs.RecordLaws.{node_output_lem}
+use Rattle.scope.proofs.StepLaws.{Adding, adding_start, adding_done, adding_falls, adding_countable, from_contents, adding_direct, adding_stops, adding_goes}
+use Rattle.messages.specs.Again.{field_names}
+use Rattle.nodes.proofs.OutputLaws.{output_counts}
+use Rattle.nodes.proofs.outputs.node_outputs.Given as goal
+
+abbrev pub invariant-loop-f : goal.invariant-loop-f
+invariant-loop-f l = Adding l.model Node-output l.initial.c.end l.initial.c.at (field_names l.model) (λ n. node_output l.model (fills n))
+    (each (node_output l.model (fills (length l.ix))) (walk_in l.model l.ix l.initial.q) (all_from l.model Node-output l.initial.c.end l.initial.c.at)) l.ix l.initial.q l.cells l.q l.c
+    × Recalled l.model l.initial.extra l.cells l.initial.cells l.extra
+
+abbrev pub decreases-loop-f : goal.decreases-loop-f
+decreases-loop-f l = l.initial.c.end - l.c.at

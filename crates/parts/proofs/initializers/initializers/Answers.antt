@@ -1,0 +1,80 @@
+use native.Mathlib.Omega.{arith}
+use Prim.Native.Nat.{◌≤◌}
+use Rattle.scope.proofs.RecallLaws.{minded_then, minded_recalled}
+use Rattle.parts.proofs.ListsLaws.{Lists, lists_start, lists_fits, lists_found, lists_next}
+use Rattle.parts.proofs.InitializerLaws.{default_kept, used_after, initializer_counts}
+use Rattle.schema.proofs.Opened.{graph_initializer}
+use Rattle.schema.specs.Numbers.{Tensor-name}
+use Rattle.scope.specs.Scope.{Defaultable}
+use Prim.Native.Nat.{◌-◌}
+use mathlib.Core.Path.{◌∙◌}
+use lib.ListN.{length}
+use Rattle.varint.specs.Outcome.{each}
+use Rattle.wire.proofs.Along.{all_from, along_start, along_contents}
+use Rattle.schema.specs.Numbers.{Graph-initializer}
+use Rattle.rules.specs.Verdict.{fills}
+use Rattle.scope.specs.Scope.{walk_in}
+use Rattle.messages.specs.Again.{tensor_names, initializer_again}
+use Rattle.scope.proofs.StepLaws.{Adding, adding_start, adding_done, adding_falls, adding_walked, adding_countable, from_contents, adding_stops, adding_goes}
+use borrow.Author.Rules.{rules}
+use Rattle.parts.proofs.initializers.initializers.Goals as goal
+
+pub loop-f-init : goal.loop-f-init
+loop-f-init c = (
+  adding_start _ _ _ _ _ _ _ (along_start _ _ _ _ _),
+  lists_start _ _ _ c.requires.1.1.1.0 c.requires.1.1.1.1.1 _ c.contents-c.ensures,
+  c.requires.1.1.1.1.0,
+  omega arith,
+)
+
+pub shape_of-extra-in_default : goal.shape_of-extra-in_default
+shape_of-extra-in_default c = c.loop-f.invariant.1.minded.size
+
+pub returns-in_default : goal.returns-in_default
+returns-in_default c =
+    let d = adding_done c.loop-f.invariant.0 c.next_of-sought.ensures c.in_default.is in
+    (d.0 ∙ along_contents _ _ _ _ _ c.contents-c.ensures, (d.1.0, (d.1.1, c.loop-f.invariant.1.minded)))
+
+pub initializer-step-requires : goal.initializer-step-requires
+initializer-step-requires c = (
+  c.requires.0,
+  (
+    adding_walked c.loop-f.invariant.0 c.next_of-sought.ensures c.in-Found.is c.requires.1.0 c.contents-c.ensures graph_initializer,
+    (
+      adding_countable c.loop-f.invariant.0 c.next_of-sought.ensures c.in-Found.is
+          (from_contents _ _ _ _ _ c.contents-c.ensures c.requires.1.1.0),
+      (c.loop-f.invariant.1.minded.recalls, (c.loop-f.invariant.2, lists_found c.loop-f.invariant.1 c.next_of-sought.ensures c.in-Found.is)),
+    ),
+  ),
+)
+
+pub returns-in_default-step : goal.returns-in_default-step
+returns-in_default-step c =
+    let d = adding_stops c.loop-f.invariant.0 c.next_of-sought.ensures c.in-Found.is _ c.initializer-step.ensures.0
+    c.initializer-step.ensures.1.0 c.initializer-step.ensures.1.1.0 c.in_default-step.is in (
+      d.0 ∙ along_contents _ _ _ _ _ c.contents-c.ensures,
+      (
+        d.1.0,
+        (
+          d.1.1,
+          minded_then c.loop-f.invariant.1.minded (minded_recalled c.loop-f.invariant.1.minded.held.fits c.initializer-step.ensures.1.1.1),
+        ),
+      ),
+    )
+
+pub loop-f-smaller : goal.loop-f-smaller
+loop-f-smaller c = adding_falls c.loop-f.invariant.0 c.next_of-sought.ensures c.in-Found.is
+
+pub loop-f-preserved : goal.loop-f-preserved
+loop-f-preserved c = (
+  adding_goes c.loop-f.invariant.0 c.next_of-sought.ensures c.in-Found.is _ c.initializer-step.ensures.0 c.initializer-step.ensures.1.0
+      c.initializer-step.ensures.1.1.0 (initializer_counts _ _ _) c.in-Went.is,
+  lists_next c.loop-f.invariant.1 c.next_of-sought.ensures c.in-Found.is
+      (minded_recalled (lists_fits c.loop-f.invariant.1) c.initializer-step.ensures.1.1.1) c.list-l.ensures,
+  default_kept c.loop-f.invariant.2
+      c.loop-f.invariant.3 c.initializer-step.ensures.1.1.0,
+  used_after _ _ c.loop-f.invariant.3 c.initializer-step.ensures.1.0 c.in-Went.is,
+)
+
+pub list-l-requires : goal.list-l-requires
+list-l-requires c = (c.initializer-step.ensures.1.1.1.recalls.both, ((minded_recalled (lists_fits c.loop-f.invariant.1) c.initializer-step.ensures.1.1.1).held.fits, c.requires.0))

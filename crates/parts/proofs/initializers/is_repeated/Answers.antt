@@ -1,0 +1,12 @@
+use Rattle.headers.specs.Earlier.{earlier_in}
+use Rattle.scope.proofs.SplitLaws.{others_lent}
+use borrow.Author.Rules.{rules}
+use Rattle.parts.proofs.initializers.is_repeated.Goals as goal
+
+pub is_listed-requires : goal.is_listed-requires
+unfolding earlier_in
+is_listed-requires c = (rw (others_lent _ _) c.requires.1.0, c.requires.1.1)
+
+pub returns : goal.returns
+unfolding earlier_in
+returns c = c.is_listed.ensures

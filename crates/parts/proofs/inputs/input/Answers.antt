@@ -1,0 +1,46 @@
+use mathlib.Core.Path.{ap, ◌∙◌}
+use Rattle.scope.specs.Scope.{step_says, grows}
+use Rattle.scope.proofs.RecallLaws.{recalled_none}
+use Rattle.scope.proofs.ScopeLaws.{keeps_all}
+use Rattle.scope.proofs.RecordLaws.{value_info_name, name_first}
+use Rattle.scope.proofs.StepLaws.{odd_grows, odd_keeps}
+use Rattle.values.proofs.NameLaws.{named_some, named_first, named_few}
+use Rattle.parts.proofs.InputLaws.{input_unnamed, input_stops, input_goes, input_fits, input_adds, input_grows}
+use borrow.Author.Rules.{rules}
+use Rattle.parts.proofs.inputs.input.Goals as goal
+
+pub with_odd-requires : goal.with_odd-requires
+with_odd-requires c = input_fits _ _ _ _ c.requires.1.1.0 (named_few _ _ _ _ _ c.read_name.ensures c.in-Named.is)
+
+pub define-step-requires : goal.define-step-requires
+define-step-requires c = (
+  name_first c.requires.1.0 value_info_name (named_first _ _ _ _ _ c.read_name.ensures c.in-Named.is),
+  (named_some _ _ _ _ _ c.read_name.ensures c.in-Named.is, (c.requires.0, c.requires.1.1.1)),
+)
+
+pub returns-in_default : goal.returns-in_default
+returns-in_default c =
+    let e = c.with_odd.ensures in
+    let d = c.define-step.ensures in (
+      λ k i. input_stops _ _ k _ _ _ _ c.read_name.ensures c.in-Named.is e _ _ d.0 c.in_default.is,
+      (odd_grows _ _ e _ d.1.0, (odd_keeps _ _ e d.1.1.0, d.1.1.1)),
+    )
+
+pub counting-requires : goal.counting-requires
+counting-requires c =
+    input_adds _ _ _ _ c.requires.1.1.0 (named_few _ _ _ _ _ c.read_name.ensures c.in-Named.is) c.with_odd.ensures
+    _ _ _ _ _ c.define-step.ensures.0 c.in-Went.is _ c.main_type.ensures
+
+pub returns-in-Refused : goal.returns-in-Refused
+unfolding step_says grows
+returns-in-Refused c = (λ k e. input_unnamed _ _ k _ _ _ _ c.read_name.ensures c.in-Refused.is, (tt, (keeps_all _ _, recalled_none c.requires.1.1.1)))
+
+pub returns-in-Went : goal.returns-in-Went
+returns-in-Went c =
+    let e = c.with_odd.ensures in
+    let d = c.define-step.ensures in (
+      λ k i. ap (step_says _ _) c.counting.ensures
+          ∙ input_goes _ _ k _ _ _ _ c.read_name.ensures c.in-Named.is e _ _ d.0 c.in-Went.is _
+          (c.main_type.ensures k _ i),
+      (rw c.counting.ensures (input_grows _ _ (odd_grows _ _ e _ d.1.0) c.in-Went.is _), (odd_keeps _ _ e d.1.1.0, d.1.1.1)),
+    )

@@ -1,0 +1,61 @@
+use Rattle.scope.proofs.RecallLaws.{recalled_none, recalled_then}
+use Prim.Native.Nat.{◌-◌}
+use mathlib.Core.Path.{refl, ◌∙◌}
+use lib.ListN.{length}
+use Rattle.varint.specs.Outcome.{each}
+use Rattle.wire.proofs.Along.{all_from, along_start, along_contents}
+use Rattle.schema.proofs.Opened.{graph_input}
+use Rattle.schema.specs.Numbers.{Graph-input}
+use Rattle.rules.specs.Verdict.{fills}
+use Rattle.rules.specs.Graph.{input}
+use Rattle.rules.specs.Count.{value_names}
+use Rattle.scope.specs.Scope.{walk_in}
+use Rattle.scope.specs.Recall.{Recalled}
+use Rattle.scope.proofs.StepLaws.{plain}
+use Rattle.parts.proofs.InputLaws.{inputs_any, input_counts}
+use Rattle.scope.proofs.StepLaws.{Adding, adding_start, adding_done, adding_falls, adding_walked, adding_countable, from_contents, adding_stops, adding_goes}
+use borrow.Author.Rules.{rules}
+use Rattle.parts.proofs.inputs.inputs.Goals as goal
+
+pub loop-f-init : goal.loop-f-init
+loop-f-init c = (adding_start _ _ _ _ _ _ _ (along_start _ _ _ _ _), recalled_none c.requires.1.1.1)
+
+pub shape_of-extra-in_default : goal.shape_of-extra-in_default
+shape_of-extra-in_default c = c.loop-f.invariant.1.size
+
+pub returns-in_default : goal.returns-in_default
+returns-in_default c =
+    let d = adding_done c.loop-f.invariant.0 c.next_of-sought.ensures c.in_default.is in
+    (λ k e. d.0 ∙ along_contents _ _ _ _ _ c.contents-c.ensures ∙ inputs_any _ _ _ k e _ _, (d.1.0, (d.1.1, c.loop-f.invariant.1)))
+
+pub input-step-requires : goal.input-step-requires
+input-step-requires c = (
+  c.requires.0,
+  (
+    adding_walked c.loop-f.invariant.0 c.next_of-sought.ensures c.in-Found.is c.requires.1.0 c.contents-c.ensures graph_input,
+    (
+      adding_countable c.loop-f.invariant.0 c.next_of-sought.ensures c.in-Found.is
+          (from_contents _ _ _ _ _ c.contents-c.ensures c.requires.1.1.0),
+      c.loop-f.invariant.1.recalls,
+    ),
+  ),
+)
+
+pub returns-in_default-step : goal.returns-in_default-step
+returns-in_default-step c =
+    let d =
+    adding_stops c.loop-f.invariant.0 c.next_of-sought.ensures c.in-Found.is _ (c.input-step.ensures.0 _ refl) c.input-step.ensures.1.0
+    c.input-step.ensures.1.1.0 c.in_default-step.is in (
+      λ k e. d.0 ∙ along_contents _ _ _ _ _ c.contents-c.ensures ∙ inputs_any _ _ _ k e _ _,
+      (d.1.0, (d.1.1, recalled_then c.loop-f.invariant.1 c.input-step.ensures.1.1.1)),
+    )
+
+pub loop-f-smaller : goal.loop-f-smaller
+loop-f-smaller c = adding_falls c.loop-f.invariant.0 c.next_of-sought.ensures c.in-Found.is
+
+pub loop-f-preserved : goal.loop-f-preserved
+loop-f-preserved c = (
+  adding_goes c.loop-f.invariant.0 c.next_of-sought.ensures c.in-Found.is _ (c.input-step.ensures.0 _ refl) c.input-step.ensures.1.0
+      c.input-step.ensures.1.1.0 (input_counts _ _) c.in-Went.is,
+  recalled_then c.loop-f.invariant.1 c.input-step.ensures.1.1.1,
+)

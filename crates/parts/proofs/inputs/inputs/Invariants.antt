@@ -1,0 +1,25 @@
+use Rattle.scope.proofs.RecallLaws.{recalled_none, recalled_then}
+use Prim.Native.Nat.{◌-◌}
+use mathlib.Core.Path.{refl, ◌∙◌}
+use lib.ListN.{length}
+use Rattle.varint.specs.Outcome.{each}
+use Rattle.wire.proofs.Along.{all_from, along_start, along_contents}
+use Rattle.schema.proofs.Opened.{graph_input}
+use Rattle.schema.specs.Numbers.{Graph-input}
+use Rattle.rules.specs.Verdict.{fills}
+use Rattle.rules.specs.Graph.{input}
+use Rattle.rules.specs.Count.{value_names}
+use Rattle.scope.specs.Scope.{walk_in}
+use Rattle.scope.specs.Recall.{Recalled}
+use Rattle.scope.proofs.StepLaws.{plain}
+use Rattle.parts.proofs.InputLaws.{inputs_any, input_counts}
+use Rattle.scope.proofs.StepLaws.{Adding, adding_start, adding_done, adding_falls, adding_walked, adding_countable, from_contents, adding_stops, adding_goes}
+use Rattle.parts.proofs.inputs.inputs.Given as goal
+
+abbrev pub invariant-loop-f : goal.invariant-loop-f
+invariant-loop-f l = Adding l.model Graph-input l.initial.c.end l.initial.c.at (value_names l.model l.initial.extra) (λ n. input l.model (fills n) (plain l.initial.extra))
+    (each (input l.model (fills (length l.ix)) (plain l.initial.extra)) (walk_in l.model l.ix l.initial.q) (all_from l.model Graph-input l.initial.c.end l.initial.c.at))
+    l.ix l.initial.q l.cells l.q l.c × Recalled l.model l.initial.cells l.cells l.main l.extra
+
+abbrev pub decreases-loop-f : goal.decreases-loop-f
+decreases-loop-f l = l.initial.c.end - l.c.at

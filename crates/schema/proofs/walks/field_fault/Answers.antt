@@ -1,0 +1,14 @@
+use mathlib.Core.Path.{refl}
+use Rattle.schema.specs.Answers.{walk_says, silent}
+use Rattle.wire.specs.Answers.{field_says}
+use Rattle.varint.specs.Outcome.{◌>>=◌}
+use borrow.Author.Rules.{rules}
+use Rattle.schema.proofs.walks.field_fault.Goals as goal
+
+pub returns-in-Refused : goal.returns-in-Refused
+unfolding walk_says silent field_says ◌>>=◌
+returns-in-Refused c = rw c.in-Refused.is refl
+
+pub returns-in-Read : goal.returns-in-Read
+unfolding walk_says silent field_says ◌>>=◌
+returns-in-Read c = rw c.in-Read.is refl

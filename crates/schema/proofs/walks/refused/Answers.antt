@@ -1,0 +1,8 @@
+use Rattle.schema.specs.Answers.{walk_says}
+use mathlib.Core.Path.{refl}
+use borrow.Author.Rules.{rules}
+use Rattle.schema.proofs.walks.refused.Goals as goal
+
+pub returns : goal.returns
+unfolding walk_says
+returns c = refl

@@ -1,0 +1,40 @@
+use native.Mathlib.Omega.{arith}
+use mathlib.Core.Path.{ap, ◌∙◌}
+use Rattle.varint.specs.Lists.{is_empty}
+use Rattle.scope.specs.Scope.{grows}
+use Rattle.scope.proofs.ScopeLaws.{define_twice, define_full, define_new, keeps_all, keeps_stored}
+use Rattle.scope.proofs.RecordLaws.{direct_fits}
+use Rattle.scope.proofs.RecallLaws.{recalled_none, recalled_more}
+use borrow.Author.Rules.{rules}
+use Rattle.scope.proofs.remembered.define.Goals as goal
+
+pub find-found-requires : goal.find-found-requires
+find-found-requires c = (c.requires.1.1.1, ap is_empty c.text.ensures ∙ c.requires.1.0)
+
+pub returns-in_default : goal.returns-in_default
+returns-in_default c = (
+  c.repeated.ensures.0 _ _ ∙ define_twice _ _ _ _ _ c.text.ensures _ c.find-found.ensures c.in_default.is,
+  (c.repeated.ensures.1 _, (keeps_all _ _, recalled_none c.requires.1.1.1)),
+)
+
+pub returns-then-room-used : goal.returns-then-room-used
+returns-then-room-used c =
+    let full = rw c.room.ensures at c.if-room-used.true in (
+      c.stopped.ensures.0 _ _ ∙ define_full _ _ _ _ _ c.text.ensures _ c.find-found.ensures c.in-Missing.is full,
+      (c.stopped.ensures.1 _, (keeps_all _ _, recalled_none c.requires.1.1.1)),
+    )
+
+pub store-requires : goal.store-requires
+store-requires c = (rw c.room.ensures at c.if-room-used.false, direct_fits _ _ c.requires.0 _ c.requires.1.1.0)
+
+pub returns : goal.returns
+unfolding grows
+returns c =
+    let fits = rw c.room.ensures at c.if-room-used.false in
+    let direct = c.requires.0 in (
+      define_new _ _ _ _ _ c.text.ensures _ c.find-found.ensures c.in-Missing.is direct _ c.store.ensures _ c.max.ensures fits,
+      (
+        omega arith,
+        (keeps_stored _ _ _ _ c.store.ensures, recalled_more c.requires.1.1.1 _ fits c.args.name direct c.store.ensures c.remember.ensures),
+      ),
+    )

@@ -1,0 +1,10 @@
+use mathlib.Core.Path.{sym}
+use lib.Seq.{length-take-le}
+use borrow.Author.Rules.{rules}
+use Rattle.scope.proofs.remembered.find.Goals as goal
+
+pub slice_bounds-find_in-end : goal.slice_bounds-find_in-end
+slice_bounds-find_in-end c = sym (length-take-le _ _ c.requires.0.both.fits)
+
+pub find_in-requires : goal.find_in-requires
+find_in-requires c = (c.requires.0.scope, c.requires.1)

@@ -1,0 +1,8 @@
+use mathlib.Core.Path.{ap, ◌∙◌}
+use Rattle.index.specs.Table.{since}
+use Rattle.scope.proofs.ScopeLaws.{found_visible}
+use borrow.Author.Rules.{rules}
+use Rattle.scope.proofs.remembered.sees.Goals as goal
+
+pub returns : goal.returns
+returns c = c.since.ensures ∙ ap (since 0) c.find.ensures ∙ found_visible _ _ _ _

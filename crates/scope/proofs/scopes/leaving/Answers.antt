@@ -1,0 +1,8 @@
+use mathlib.Core.Path.{refl}
+use Rattle.scope.specs.Scope.{left}
+use borrow.Author.Rules.{rules}
+use Rattle.scope.proofs.scopes.leaving.Goals as goal
+
+pub returns : goal.returns
+unfolding left
+returns c = refl

@@ -1,0 +1,13 @@
+use mathlib.Core.Path.{sym, ap, ◌∙◌}
+use Rattle.varint.specs.Outcome.{refused_with}
+use Rattle.scope.specs.Scope.{first_in, step_says, grows}
+use borrow.Author.Rules.{rules}
+use Rattle.scope.proofs.scopes.repeated.Goals as goal
+
+pub returns-in-At : goal.returns-in-At
+unfolding first_in step_says grows
+returns-in-At c = ((λ model later. ap (refused_with 23 _) (c.place_at-first.ensures.0 ∙ sym (ap (first_in _) c.in-At.is))), λ p. tt)
+
+pub returns-in-Missing : goal.returns-in-Missing
+unfolding first_in step_says grows
+returns-in-Missing c = ((λ model later. ap (refused_with 23 _) (sym (ap (first_in _) c.in-Missing.is))), λ p. tt)

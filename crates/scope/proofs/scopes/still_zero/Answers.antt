@@ -1,0 +1,7 @@
+use mathlib.Core.Path.{sym}
+use mathlib.Core.Bool.{true≢false}
+use borrow.Author.Rules.{rules}
+use Rattle.scope.proofs.scopes.still_zero.Goals as goal
+
+pub returns : goal.returns
+returns c = λ e. absurd (true≢false (sym e))

@@ -1,0 +1,8 @@
+use mathlib.Core.Path.{refl}
+use Rattle.scope.specs.Scope.{step_says, grows}
+use borrow.Author.Rules.{rules}
+use Rattle.scope.proofs.scopes.stopped.Goals as goal
+
+pub returns : goal.returns
+unfolding step_says grows
+returns c = (λ model cells. refl, λ p. tt)

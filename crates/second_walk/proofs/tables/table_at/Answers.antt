@@ -1,0 +1,27 @@
+use Prim.Native.Nat.{◌-◌, ◌≤◌}
+use native.Mathlib.Omega.{arith}
+use mathlib.Core.Path.{◌≡◌, refl}
+use lib.ListN.{length}
+use Rattle.wire.proofs.Along.{found_onward}
+use Rattle.schema.specs.Numbers.{Model-functions}
+use Rattle.second_walk.proofs.LoopLaws.{onward_fits}
+use borrow.Author.Rules.{rules}
+use Rattle.second_walk.proofs.tables.table_at.Goals as goal
+
+pub loop-f-init : goal.loop-f-init
+loop-f-init c = (c.requires, omega arith, refl)
+
+pub overflow_sub-f : goal.overflow_sub-f
+overflow_sub-f c = (onward_fits (found_onward _ Model-functions _ c.loop-f.invariant.2 c.next_of-sought.ensures c.in-Found.is)).2
+
+pub loop-f-smaller : goal.loop-f-smaller
+loop-f-smaller c =
+    let o = found_onward _ Model-functions _ c.loop-f.invariant.2 c.next_of-sought.ensures c.in-Found.is in
+    let far = o.onward in
+    let near = o.inside in
+    omega arith
+
+pub loop-f-preserved : goal.loop-f-preserved
+loop-f-preserved c =
+    let o = found_onward _ Model-functions _ c.loop-f.invariant.2 c.next_of-sought.ensures c.in-Found.is in
+    (omega arith, omega arith, o.ends)

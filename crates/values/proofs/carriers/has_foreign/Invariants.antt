@@ -1,0 +1,10 @@
+use Prim.Native.Nat.{◌-◌}
+use mathlib.Core.Path.{◌∙◌}
+use Rattle.values.proofs.CarrierLaws.{look_all, Looking, look_start, look_done, look_stop, look_here, look_next, look_falls}
+use Rattle.values.proofs.carriers.has_foreign.Given as goal
+
+abbrev pub invariant-loop-c : goal.invariant-loop-c
+invariant-loop-c l = Looking l.model l.mine l.initial.c.end l.initial.c.at l.c
+
+abbrev pub decreases-loop-c : goal.decreases-loop-c
+decreases-loop-c l = l.initial.c.end - l.c.at

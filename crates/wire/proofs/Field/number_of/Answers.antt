@@ -1,0 +1,7 @@
+use mathlib.Core.Path.{◌∙◌}
+use Rattle.wire.proofs.MessageLaws.{number_in}
+use borrow.Author.Rules.{rules}
+use Rattle.wire.proofs.Field.number_of.Goals as goal
+
+pub returns : goal.returns
+returns c = c.value.ensures ∙ number_in _ _ _ _ c.first_of.ensures

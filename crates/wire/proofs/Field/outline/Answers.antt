@@ -1,0 +1,25 @@
+use Prim.Native.Nat.{◌-◌}
+use mathlib.Core.Path.{ap}
+use Rattle.wire.specs.Answers.{contents_of}
+use Rattle.wire.specs.declared.Cursor.{Cursor}
+use Rattle.wire.proofs.OutlineLaws.{Marks, marks_start, marks_end, marks_stop, marks_falls, marks_next}
+use borrow.Author.Rules.{rules}
+use Rattle.wire.proofs.Field.outline.Goals as goal
+
+pub loop-here-init : goal.loop-here-init
+unfolding contents_of
+loop-here-init c = marks_start _ _ _ _ _ _ _ _ (ap (λ (x : Cursor). x.end) c.contents-here.ensures)
+
+pub returns-then-end-at : goal.returns-then-end-at
+returns-then-end-at c = marks_end _ c.loop-here.invariant c.contents-here.ensures c.if-end-at.true
+
+pub returns-in_default : goal.returns-in_default
+returns-in_default c = marks_stop _ c.loop-here.invariant c.contents-here.ensures c.if-end-at.false c.field-read.ensures c.in_default.is
+
+pub loop-here-smaller : goal.loop-here-smaller
+loop-here-smaller c = marks_falls c.loop-here.invariant c.if-end-at.false c.field-read.ensures c.in-Read.is
+
+pub loop-here-preserved : goal.loop-here-preserved
+loop-here-preserved c =
+    marks_next c.loop-here.invariant c.if-end-at.false c.field-read.ensures c.in-Read.is c.mark.ensures c.mark-in-loop-here.ensures
+    c.mark-in-loop-here-2.ensures c.mark-in-loop-here-3.ensures c.mark-in-loop-here-4.ensures c.mark-in-loop-here-5.ensures

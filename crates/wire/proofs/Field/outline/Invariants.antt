@@ -1,0 +1,12 @@
+use Prim.Native.Nat.{◌-◌}
+use mathlib.Core.Path.{ap}
+use Rattle.wire.specs.Answers.{contents_of}
+use Rattle.wire.specs.declared.Cursor.{Cursor}
+use Rattle.wire.proofs.OutlineLaws.{Marks, marks_start, marks_end, marks_stop, marks_falls, marks_next}
+use Rattle.wire.proofs.Field.outline.Given as goal
+
+abbrev pub invariant-loop-here : goal.invariant-loop-here
+invariant-loop-here l = Marks l.s l.a l.b l.c l.d l.e l.f l.end l.initial.here l.here l.o
+
+abbrev pub decreases-loop-here : goal.decreases-loop-here
+decreases-loop-here l = l.end - l.here.at

@@ -1,0 +1,7 @@
+use Rattle.wire.specs.Message.{text}
+use borrow.Author.Rules.{rules}
+use Rattle.wire.proofs.Field.text.Goals as goal
+
+pub returns : goal.returns
+unfolding text
+returns c = c.between.ensures

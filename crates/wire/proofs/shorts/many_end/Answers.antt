@@ -1,0 +1,33 @@
+use Rattle.wire.proofs.QuickLaws.{Skipping, skip_start, skip_more, skip_last, skip_tenth}
+use Rattle.varint.specs.Bytes.{byte}
+use native.Mathlib.Omega.{arith}
+use Prim.Native.Nat.{◌-◌}
+use borrow.Author.Rules.{rules}
+use Rattle.wire.proofs.shorts.many_end.Goals as goal
+
+pub returns-then-s-end : goal.returns-then-s-end
+returns-then-s-end c = λ h. absurd (omega arith)
+
+pub returns-then-end-at : goal.returns-then-end-at
+returns-then-end-at c = λ h. absurd (omega arith)
+
+pub returns-then-end-at-lt10 : goal.returns-then-end-at-lt10
+returns-then-end-at-lt10 c = λ h. absurd (omega arith)
+
+pub loop-i-init : goal.loop-i-init
+loop-i-init c = skip_start _ _ _ (omega arith)
+
+pub returns-then-b-lt128 : goal.returns-then-b-lt128
+unfolding byte
+returns-then-b-lt128 c = λ h. let q = c.end_of.ensures h in skip_last c.loop-i.invariant c.wide-b.ensures.0 c.loop-i-test.true q.0 c.if-b-lt128.true q.1
+
+pub loop-i-preserved : goal.loop-i-preserved
+unfolding byte
+loop-i-preserved c = skip_more c.loop-i.invariant c.wide-b.ensures.0 c.loop-i-test.true c.if-b-lt128.false c.wide-b.ensures.1
+
+pub returns-then-wide-ne1 : goal.returns-then-wide-ne1
+returns-then-wide-ne1 c = λ h. absurd (omega arith)
+
+pub returns : goal.returns
+unfolding byte
+returns c = λ h. skip_tenth c.loop-i.invariant c.loop-i-test.false c.wide.ensures.0 c.if-wide-ne1.false (omega arith)

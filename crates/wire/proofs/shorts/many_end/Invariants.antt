@@ -1,0 +1,11 @@
+use Rattle.wire.proofs.QuickLaws.{Skipping, skip_start, skip_more, skip_last, skip_tenth}
+use Rattle.varint.specs.Bytes.{byte}
+use native.Mathlib.Omega.{arith}
+use Prim.Native.Nat.{◌-◌}
+use Rattle.wire.proofs.shorts.many_end.Given as goal
+
+abbrev pub invariant-loop-i : goal.invariant-loop-i
+invariant-loop-i l = Skipping l.s l.end l.at l.i
+
+abbrev pub decreases-loop-i : goal.decreases-loop-i
+decreases-loop-i l = 9 - l.i
