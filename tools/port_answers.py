@@ -72,7 +72,7 @@ class Names:
 
     def goal(self, old):
         old = plain(old)
-        for it in (old, re.sub(r"^(overflow|nonzero)-", "", old)):
+        for it in (old, re.sub(r"^(overflow|nonzero)-", "", old), re.sub("^slice-bounds-", "part-", old)):
             if it in self.goals:
                 return self.goals[it]
         return None
@@ -110,15 +110,84 @@ class Names:
                 for field, by, path in arm[2]:
                     if by == step[0] and rest[: len(path)] == path and (best is None or len(path) > len(best[1])):
                         best = (field, path)
+                if best and best[0] == "ensures":
+                    above = self.places[self.places[place][1]]
+                    while above[3] is None and above[1]:
+                        above = self.places[above[1]]
+                    named = clauses(above[3], "ensures")
+                    if named:
+                        return None, by_name((".".join([root, arm[0], "ensures"]), rest[len(best[1]) :]), named)
                 if best:
                     return None, ".".join([root, arm[0], best[0]] + rest[len(best[1]) :])
             if rest and rest[0] in fields:
                 rest[0] = fields[rest[0]]
+            named = rest and rest[0] == "ensures" and clauses(callee, "ensures")
+            if named:
+                return None, by_name((".".join([root, step[1], "ensures"]), rest[1:]), named)
             return None, ".".join([root, step[1]] + rest)
         head = parts[0] = head.replace("-", "_") if head in ("well-formed", "type-inv") else head
         if head in ("args", "requires", "ranges", "lifetimes", "well_formed", "utf8"):
+            named = head == "requires" and clauses(self.function, "requires")
+            if named:
+                return None, by_name((root + ".requires", parts[1:]), named)
             return None, ".".join([root] + parts)
         raise KeyError(head + " at " + place + ", which has " + step[0])
+
+
+def clauses_of(crates):
+    """For each function, by crate and by its type and name, the names of its clauses of each kind, where they have names."""
+    table = {}
+    for path in glob.glob(os.path.join(crates, "*", "src", "**", "*.rt"), recursive=True):
+        crate = os.path.relpath(path, crates).split(os.sep)[0]
+        kind, function = None, None
+        for line in read(path).split("\n"):
+            it = re.match(r"impl(?:<[^>]*>)? (\w+)", line)
+            if it:
+                kind = it.group(1)
+            elif line == "}":
+                kind = None
+            it = re.match(r"\s*(?:pub(?:\([^)]*\))? )?(?:unsafe )?(?:extern \"C\" )?fn (\w+)", line)
+            if it:
+                function = (crate, (kind + "::" if kind else "") + it.group(1))
+                table[function] = {"requires": [], "ensures": []}
+            it = re.match(r"\s+(requires|ensures)\s+(?:(\w+)\s+)?\{", line)
+            if it and function:
+                table[function][it.group(1)].append(it.group(2))
+    return table
+
+
+CLAUSES = {}
+
+
+def clauses(callee, kind):
+    """The clauses' names, or None where there is one with no name."""
+    if not callee:
+        return None
+    parts = callee.split("::")
+    for name in ("::".join(parts[-2:]), parts[-1]):
+        them = CLAUSES.get((parts[0], name))
+        if them is not None:
+            return them[kind] if all(them[kind]) and them[kind] else None
+    return None
+
+
+def by_name(path, names):
+    """The path of clauses that were joined by × : `x.ensures.1.0` as `x.ensures.NAME`, and `x.ensures` as all of them."""
+    head, rest = path
+    i = 0
+    while rest and i < len(names) - 1 and rest[0] == "1":
+        rest.pop(0)
+        i += 1
+    if i < len(names) - 1 and rest and rest[0] == "0":
+        return head + "." + ".".join([names[i]] + rest[1:])
+    if i == len(names) - 1:
+        return head + "." + ".".join([names[i]] + rest)
+    if rest:
+        raise KeyError("clause " + ".".join(rest))
+    made = head + "." + names[-1]
+    for name in reversed(names[i:-1]):
+        made = f"({head}.{name}, {made})"
+    return made
 
 
 LET = re.compile(r"let ([\w'·-]+) = ([\w'·-]+(?:\.[\w'·-]+)*) in\s*")
@@ -171,6 +240,65 @@ def body_of(text, names, place, root="c", left=None):
     return out
 
 
+def asks(names, old):
+    """The names of the clauses that a goal asks, where they have names."""
+    if re.match(r"returns(-\d+)?$", old):
+        return clauses(names.function, "ensures")
+    it = re.match(r"(.*)-requires(?:-(\d+))?$", old)
+    if it:
+        for _, _, step, callee, _ in names.places.values():
+            if callee and plain(step[0]) == it.group(1) + (it.group(2) or ""):
+                return clauses(callee, "requires")
+    return None
+
+
+def parts_of(text):
+    """The two parts of a pair that the text is, or None."""
+    text = text.strip()
+    if not (text.startswith("(") and text.endswith(")")):
+        return None
+    depth, commas = 0, []
+    for i, it in enumerate(text):
+        depth += it in "([{"
+        depth -= it in ")]}"
+        if depth == 0 and i < len(text) - 1:
+            return None
+        if depth == 1 and it == ",":
+            commas.append(i)
+    if not commas:
+        return None
+    return [text[a + 1 : b].strip() for a, b in zip([0] + commas, commas + [len(text) - 1])]
+
+
+def in_record(text, names):
+    if len(names) == 1:
+        return f"record {{ {names[0]} = {text.strip()} }}"
+    lets = ""
+    while True:
+        it = re.match(r"\s*let [\w'·-]+ (?:: .*?)?= .*? in\s+(?=\(|let |[a-z])", text, re.S)
+        if not it or parts_of(text):
+            break
+        lets, text = lets + it.group(), text[it.end() :]
+    found = []
+    rest = text
+    while len(found) < len(names) - 1:
+        parts = parts_of(rest)
+        if not parts:
+            break
+        found += parts[:-1]
+        rest = parts[-1]
+    found.append(rest.strip())
+    if len(found) == len(names):
+        return lets + "record { " + "; ".join(f"{n} = {t}" for n, t in zip(names, found)) + " }"
+    if re.match(r"\s*(absurd|elim)\b", text):
+        return lets + text
+    # the last part is of all the clauses that are left
+    done, left = len(found) - 1, len(names) - len(found) + 1
+    path = lambda i: "rest" + ".1" * i + (".0" if i < left - 1 else "")
+    terms = found[:-1] + [path(i) for i in range(left)]
+    return lets + f"let rest = {found[-1].strip()} in\n    record {{ " + "; ".join(f"{n} = {t}" for n, t in zip(names, terms)) + " }"
+
+
 def loop_binders(entry, old):
     for (was, new), variables in entry["loops"]:
         if plain(was) == plain(old):
@@ -200,6 +328,7 @@ def substitute(text, table):
 
 def turn(path, entry, crate, function):
     names = Names(entry)
+    names.function = crate + "::" + function.replace(".", "::")
     text = read(path)
     uses, invariants, answers, left = [], [], [], []
     inv_uses = []
@@ -261,6 +390,9 @@ def turn(path, entry, crate, function):
             made = body_of(body[it.end() :], names, place, root, left)
             if made.strip() == "search rules":
                 continue
+            asked = asks(names, plain(m.group(1)))
+            if asked:
+                made = in_record(made, asked)
             nl = "\n    " if "\n" in made else " "
             answers.append("\n".join(comments + [f"pub {new} : goal.{new}"] + unfolding + [f"{new} {root} ={nl}{made}"]))
             continue
@@ -288,6 +420,7 @@ def turn(path, entry, crate, function):
 def main():
     found = json.load(open(sys.argv[1]))
     where = sys.argv[2]
+    CLAUSES.update(clauses_of(os.path.join(where, "..")))
     crate = os.path.basename(os.path.abspath(where))
     for path in sorted(glob.glob(os.path.join(where, "proofs", "**", "Proof.antt"), recursive=True)):
         function = os.path.relpath(os.path.dirname(path), os.path.join(where, "proofs")).replace("/", ".")

@@ -4,4 +4,4 @@ use borrow.Author.Rules.{rules}
 use Rattle.gate_c.proofs.onnx_gate_check.Goals as goal
 
 pub returns : goal.returns
-returns c = (c.in_numbers.ensures ∙ ap outcome c.check.ensures.0, c.check.ensures.1)
+returns c = record { answer = c.in_numbers.ensures ∙ ap outcome c.check.ensures.answer; cleared = c.check.ensures.cleared }

@@ -4,4 +4,4 @@ use borrow.Author.Rules.{rules}
 use Rattle.gate_c.proofs.onnx_gate_check_indexed.Goals as goal
 
 pub returns : goal.returns
-returns c = (c.in_numbers.ensures ∙ ap outcome c.check_indexed.ensures.0, c.check_indexed.ensures.1)
+returns c = record { answer = c.in_numbers.ensures ∙ ap outcome c.check_indexed.ensures.answer; cleared = c.check_indexed.ensures.cleared; extras = c.check_indexed.ensures.extras }

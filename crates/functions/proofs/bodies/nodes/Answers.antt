@@ -27,46 +27,49 @@ pub loop-n-init : goal.loop-n-init
 unfolding contents_of
 loop-n-init c =
     rw c.contents-c.ensures (
-      going_start _ _ _ _ _ _ _ c.requires.0.ends,
-      lists_start _ _ _ c.requires.1.0.recalls c.requires.1.0.fits _ refl,
-      c.requires.1.0,
+      going_start _ _ _ _ _ _ _ c.requires.enters.ends,
+      lists_start _ _ _ c.requires.minds.recalls c.requires.minds.fits _ refl,
+      c.requires.minds,
     )
 
 pub returns-in_default : goal.returns-in_default
-returns-in_default c = promised_and (loop_done c.loop-n.invariant.0 c.next_of-sought.ensures c.requires.0 c.in_default.is (nodes_by _ _ _ _ _ _)) c.loop-n.invariant.1.minded
+returns-in_default c =
+    let rest = promised_and (loop_done c.loop-n.invariant.0 c.next_of-sought.ensures c.requires.enters c.in_default.is (nodes_by _ _ _ _ _ _)) c.loop-n.invariant.1.minded in
+    record { answer = rest.0; grown = rest.1.0; counts = rest.1.1.0; kept = rest.1.1.1.0; memory = rest.1.1.1.1 }
 
 pub node-step-requires : goal.node-step-requires
-node-step-requires c = (
-  going_enters c.loop-n.invariant.0 c.next_of-sought.ensures c.in-Found.is c.requires.0.short c.requires.0.walked (own_contents _) function_node
-      (enters_low c.requires.0),
-  (
-    minds_higher c.loop-n.invariant.2 c.loop-n.invariant.1.above (lists_fits c.loop-n.invariant.1),
-    (
-      rw c.requires.1.1.1 (lists_found c.loop-n.invariant.1 c.next_of-sought.ensures c.in-Found.is),
-      going_countable c.loop-n.invariant.0 c.next_of-sought.ensures c.in-Found.is (nodes_countable _ _ _ _ c.requires.1.1.0),
-    ),
-  ),
-)
+node-step-requires c =
+    let rest =  in
+    record { enters = going_enters c.loop-n.invariant.0 c.next_of-sought.ensures c.in-Found.is c.requires.enters.short c.requires.enters.walked (own_contents _) function_node
+          (enters_low c.requires.enters); minds = (
+        minds_higher c.loop-n.invariant.2 c.loop-n.invariant.1.above (lists_fits c.loop-n.invariant.1),
+        (
+          rw c.requires.nodes_value (lists_found c.loop-n.invariant.1 c.next_of-sought.ensures c.in-Found.is),
+          going_countable c.loop-n.invariant.0 c.next_of-sought.ensures c.in-Found.is (nodes_countable _ _ _ _ c.requires.countable),
+        ),
+      ); listed = rest.0; countable = rest.1 }
 
 pub returns-in_default-step : goal.returns-in_default-step
 returns-in_default-step c =
-    promised_and (loop_stops c.loop-n.invariant.0 c.next_of-sought.ensures c.in-Found.is _ c.node-step.ensures.0 c.node-step.ensures.1.0
-    c.node-step.ensures.1.1.1.0 c.in_default-step.is (nodes_by _ _ _ _ _ _))
-    (minded_then c.loop-n.invariant.1.minded (minded_fewer c.loop-n.invariant.1.above c.node-step.ensures.1.1.1.1))
+    let rest = promised_and (loop_stops c.loop-n.invariant.0 c.next_of-sought.ensures c.in-Found.is _ c.node-step.ensures.answer c.node-step.ensures.grown
+    c.node-step.ensures.kept c.in_default-step.is (nodes_by _ _ _ _ _ _))
+    (minded_then c.loop-n.invariant.1.minded (minded_fewer c.loop-n.invariant.1.above c.node-step.ensures.memory)) in
+    record { answer = rest.0; grown = rest.1.0; counts = rest.1.1.0; kept = rest.1.1.1.0; memory = rest.1.1.1.1 }
 
 pub list-l-requires : goal.list-l-requires
-list-l-requires c = (c.node-step.ensures.1.1.1.1.recalls.both, (c.node-step.ensures.1.1.1.1.held.fits, c.requires.0.short))
+list-l-requires c = record { remembering = c.node-step.ensures.memory.recalls.both; top_bound = c.node-step.ensures.memory.held.fits; model_len_bound = c.requires.enters.short }
 
 pub loop-n-smaller : goal.loop-n-smaller
 loop-n-smaller c = going_falls c.loop-n.invariant.0 c.next_of-sought.ensures c.in-Found.is
 
 pub loop-n-preserved : goal.loop-n-preserved
-loop-n-preserved c = (
-  going_goes c.loop-n.invariant.0 c.next_of-sought.ensures c.in-Found.is _ c.node-step.ensures.0 c.node-step.ensures.1.0
-      c.node-step.ensures.1.1.1.0 (nodes_count _ _ _ _) c.node-step.ensures.1.1.0 c.in-Went.is,
-  lists_next c.loop-n.invariant.1 c.next_of-sought.ensures c.in-Found.is c.node-step.ensures.1.1.1.1 c.list-l.ensures,
-  lists_minds c.loop-n.invariant.1 c.next_of-sought.ensures c.in-Found.is c.loop-n.invariant.2 c.node-step.ensures.1.1.1.1 c.list-l.ensures,
-)
+loop-n-preserved c =
+    (
+      going_goes c.loop-n.invariant.0 c.next_of-sought.ensures c.in-Found.is _ c.node-step.ensures.answer c.node-step.ensures.grown
+          c.node-step.ensures.kept (nodes_count _ _ _ _) c.node-step.ensures.counts c.in-Went.is,
+      lists_next c.loop-n.invariant.1 c.next_of-sought.ensures c.in-Found.is c.node-step.ensures.memory c.list-l.ensures,
+      lists_minds c.loop-n.invariant.1 c.next_of-sought.ensures c.in-Found.is c.loop-n.invariant.2 c.node-step.ensures.memory c.list-l.ensures,
+    )
 
 pub shape_of-cells-in_default : goal.shape_of-cells-in_default
 shape_of-cells-in_default c = c.loop-n.invariant.0.adding.kept.size
@@ -75,7 +78,7 @@ pub shape_of-extra-in_default : goal.shape_of-extra-in_default
 shape_of-extra-in_default c = c.loop-n.invariant.1.minded.size
 
 pub shape_of-cells-in_default-step : goal.shape_of-cells-in_default-step
-shape_of-cells-in_default-step c = c.node-step.ensures.1.1.1.0.size ∙ c.loop-n.invariant.0.adding.kept.size
+shape_of-cells-in_default-step c = c.node-step.ensures.kept.size ∙ c.loop-n.invariant.0.adding.kept.size
 
 pub shape_of-extra-in_default-step : goal.shape_of-extra-in_default-step
-shape_of-extra-in_default-step c = c.node-step.ensures.1.1.1.1.size ∙ c.loop-n.invariant.1.minded.size
+shape_of-extra-in_default-step c = c.node-step.ensures.memory.size ∙ c.loop-n.invariant.1.minded.size

@@ -7,40 +7,37 @@ use borrow.Author.Rules.{rules}
 use Rattle.functions.proofs.functions.function.Goals as goal
 
 pub head-requires : goal.head-requires
-head-requires c = (c.requires.1.0.both, (c.requires.0.short, c.requires.0.walked.inside))
+head-requires c = record { remembering = c.requires.recalling.both; model_len_bound = c.requires.enters.short; next_in_bounds = c.requires.enters.walked.inside }
 
 pub overflow_add-start : goal.overflow_add-start
-overflow_add-start c = record { fits = begun_fits _ _ _ c.args.version _ c.args.cells.now _ _ _ c.head.ensures.0 c.in-Declared.is _ _ c.head.ensures.1.0 c.requires.1.1 }
+overflow_add-start c = record { fits = begun_fits _ _ _ c.args.version _ c.args.cells.now _ _ _ c.head.ensures.answer c.in-Declared.is _ _ c.head.ensures.declared c.requires.countable }
 
 pub body-requires : goal.body-requires
 unfolding within
-body-requires c = (
-  begun_enters c.requires.0 refl,
-  (
-    begun_minds c.requires.1.0 c.head.ensures.1.1 _ _ c.head.ensures.1.0 c.in-Declared.is,
-    (
-      begun_countable _ _ _ c.args.version _ c.args.cells.now _ _ _ c.head.ensures.0 c.in-Declared.is _ _ c.head.ensures.1.0 c.requires.1.1,
-      refl,
-    ),
-  ),
-)
+body-requires c =
+    let rest =  in
+    record { enters = begun_enters c.requires.enters refl; minds = (
+        begun_minds c.requires.recalling c.head.ensures.held _ _ c.head.ensures.declared c.in-Declared.is,
+        (
+          begun_countable _ _ _ c.args.version _ c.args.cells.now _ _ _ c.head.ensures.answer c.in-Declared.is _ _ c.head.ensures.declared c.requires.countable,
+          refl,
+        ),
+      ); countable = rest.0; nodes_value = rest.1 }
 
 pub returns-in-Refused : goal.returns-in-Refused
 unfolding counted
-returns-in-Refused c = (
-  function_unread _ _ c.args.left c.args.version _ c.args.cells.now c.args.p _ _ c.head.ensures.0 c.in-Refused.is _,
-  (tt, (refl, (c.head.ensures.1.1.size, recalling_held c.requires.1.0 c.head.ensures.1.1))),
-)
+returns-in-Refused c =
+    let rest =  in
+    record { answer = function_unread _ _ c.args.left c.args.version _ c.args.cells.now c.args.p _ _ c.head.ensures.answer c.in-Refused.is _; counts = (tt, (refl, (c.head.ensures.held.size, recalling_held c.requires.recalling c.head.ensures.held))); size = rest.0; lent = rest.1.0; memory = rest.1.1 }
 
 pub returns-in-Declared : goal.returns-in-Declared
 unfolding within
-returns-in-Declared c = (
-  c.body.ensures.0 ∙ function_begun _ _ c.args.left c.args.version _ c.args.cells.now c.args.p _ _ c.head.ensures.0 c.in-Declared.is,
-  (
-    begun_counts _ _ _ refl _ c.body.ensures.1.1.0,
-    (
-      c.body.ensures.1.1.1.0.size,
-      (c.body.ensures.1.1.1.1.size ∙ c.head.ensures.1.1.size, recalling_without c.body.ensures.1.1.1.1.recalls),
-    ),
-  ),
-)
+returns-in-Declared c =
+    let rest =  in
+    record { answer = c.body.ensures.answer ∙ function_begun _ _ c.args.left c.args.version _ c.args.cells.now c.args.p _ _ c.head.ensures.answer c.in-Declared.is; counts = (
+        begun_counts _ _ _ refl _ c.body.ensures.counts,
+        (
+          c.body.ensures.kept.size,
+          (c.body.ensures.memory.size ∙ c.head.ensures.held.size, recalling_without c.body.ensures.memory.recalls),
+        ),
+      ); size = rest.0; lent = rest.1.0; memory = rest.1.1 }

@@ -4,13 +4,13 @@ use borrow.Author.Rules.{rules}
 use Rattle.functions.proofs.functions.head.Goals as goal
 
 pub read_signature-requires : goal.read_signature-requires
-read_signature-requires c = rw (others_lent _ _) (c.requires.0.lists, c.requires.1)
+read_signature-requires c =
+    let rest = rw (others_lent _ _) (c.requires.remembering.lists, (c.requires.model_len_bound, c.requires.next_in_bounds)) in
+    record { indexed = rest.0; model_len_bound = rest.1.0; next_in_bounds = rest.1.1 }
 
 pub returns : goal.returns
-returns c = (
-  c.read_signature.ensures.0,
-  (
-    declares_on _ c.args.ix _ c.requires.0.fits _ _ _ c.read_signature.ensures.1.0,
-    held_on c.args.ix c.requires.0.fits c.read_signature.ensures.1.1,
-  ),
-)
+returns c =
+    record { answer = c.read_signature.ensures.answer; declared = (
+        declares_on _ c.args.ix _ c.requires.remembering.fits _ _ _ c.read_signature.ensures.declared,
+        held_on c.args.ix c.requires.remembering.fits c.read_signature.ensures.held,
+      ); held =  }

@@ -15,21 +15,20 @@ pub with_odd-requires : goal.with_odd-requires
 unfolding Countable field_names
 with_odd-requires c =
     let few = field_few _ _ _ _ c.test_name.ensures c.in-Counted.is in
-    let room = c.requires.1.0 in
+    let room = c.requires.countable in
     omega arith
 
 pub define-requires : goal.define-requires
-define-requires c = (c.requires.0, (field_some _ _ _ _ c.test_name.ensures c.in-Counted.is, c.requires.1.1))
+define-requires c = record { direct = c.requires.direct; name_value = field_some _ _ _ _ c.test_name.ensures c.in-Counted.is; model_len_bound = c.requires.model_len_bound; recalling = c.requires.recalling }
 
 pub returns-in-Refused : goal.returns-in-Refused
 unfolding step_says grows
-returns-in-Refused c = (input_bad _ _ _ c.test_name.ensures _ _ c.in-Refused.is, (tt, (keeps_all _ _, recalled_none c.requires.1.1.1)))
+returns-in-Refused c = record { answer = input_bad _ _ _ c.test_name.ensures _ _ c.in-Refused.is; grown = tt; kept = keeps_all _ _; memory = recalled_none c.requires.recalling }
 
 pub returns-in-Counted : goal.returns-in-Counted
-returns-in-Counted c = (
-  odd_says _ _ c.with_odd.ensures _ _ _ _ _ _ c.define.ensures.0 ∙ input_new _ _ _ c.test_name.ensures _ _ c.in-Counted.is,
-  (
-    odd_grows _ _ c.with_odd.ensures _ c.define.ensures.1.0,
-    (odd_keeps _ _ c.with_odd.ensures c.define.ensures.1.1.0, c.define.ensures.1.1.1),
-  ),
-)
+returns-in-Counted c =
+    let rest =  in
+    record { answer = odd_says _ _ c.with_odd.ensures _ _ _ _ _ _ c.define.ensures.answer ∙ input_new _ _ _ c.test_name.ensures _ _ c.in-Counted.is; grown = (
+        odd_grows _ _ c.with_odd.ensures _ c.define.ensures.grown,
+        (odd_keeps _ _ c.with_odd.ensures c.define.ensures.kept, c.define.ensures.memory),
+      ); kept = rest.0; memory = rest.1 }

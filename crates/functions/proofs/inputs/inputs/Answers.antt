@@ -17,7 +17,7 @@ use borrow.Author.Rules.{rules}
 use Rattle.functions.proofs.inputs.inputs.Goals as goal
 
 pub loop-name-init : goal.loop-name-init
-loop-name-init c = (adding_start _ _ _ _ _ _ _ (along_start _ _ _ _ _), recalled_none c.requires.1.1.1)
+loop-name-init c = (adding_start _ _ _ _ _ _ _ (along_start _ _ _ _ _), recalled_none c.requires.recalling)
 
 pub shape_of-extra-in_default : goal.shape_of-extra-in_default
 shape_of-extra-in_default c = c.loop-name.invariant.1.size
@@ -25,32 +25,30 @@ shape_of-extra-in_default c = c.loop-name.invariant.1.size
 pub returns-in_default : goal.returns-in_default
 returns-in_default c =
     let d = adding_done c.loop-name.invariant.0 c.next_of-sought.ensures c.in_default.is in
-    (d.0 ∙ along_contents _ _ _ _ _ c.contents-c.ensures, (d.1.0, (d.1.1, c.loop-name.invariant.1)))
+    record { answer = d.0 ∙ along_contents _ _ _ _ _ c.contents-c.ensures; grown = d.1.0; kept = d.1.1; memory = c.loop-name.invariant.1 }
 
 pub input-step-requires : goal.input-step-requires
-input-step-requires c = (
-  adding_direct c.loop-name.invariant.0 c.next_of-sought.ensures c.in-Found.is c.requires.1.0 c.contents-c.ensures function_input_lem,
-  (
-    adding_countable c.loop-name.invariant.0 c.next_of-sought.ensures c.in-Found.is
-        (from_contents _ _ _ _ _ c.contents-c.ensures c.requires.1.1.0),
-    (c.requires.0, c.loop-name.invariant.1.recalls),
-  ),
-)
+input-step-requires c =
+    let rest =  in
+    record { direct = adding_direct c.loop-name.invariant.0 c.next_of-sought.ensures c.in-Found.is c.requires.walked c.contents-c.ensures function_input_lem; countable = (
+        adding_countable c.loop-name.invariant.0 c.next_of-sought.ensures c.in-Found.is
+            (from_contents _ _ _ _ _ c.contents-c.ensures c.requires.countable),
+        (c.requires.model_len_bound, c.loop-name.invariant.1.recalls),
+      ); model_len_bound = rest.0; recalling = rest.1 }
 
 pub returns-in_default-step : goal.returns-in_default-step
 returns-in_default-step c =
-    let d = adding_stops c.loop-name.invariant.0 c.next_of-sought.ensures c.in-Found.is _ c.input-step.ensures.0
-    c.input-step.ensures.1.0 c.input-step.ensures.1.1.0 c.in_default-step.is in (
-      d.0 ∙ along_contents _ _ _ _ _ c.contents-c.ensures,
-      (d.1.0, (d.1.1, recalled_then c.loop-name.invariant.1 c.input-step.ensures.1.1.1)),
-    )
+    let d = adding_stops c.loop-name.invariant.0 c.next_of-sought.ensures c.in-Found.is _ c.input-step.ensures.answer
+    c.input-step.ensures.grown c.input-step.ensures.kept c.in_default-step.is in let rest =  in
+    record { answer = d.0 ∙ along_contents _ _ _ _ _ c.contents-c.ensures; grown = (d.1.0, (d.1.1, recalled_then c.loop-name.invariant.1 c.input-step.ensures.memory)); kept = rest.0; memory = rest.1 }
 
 pub loop-name-smaller : goal.loop-name-smaller
 loop-name-smaller c = adding_falls c.loop-name.invariant.0 c.next_of-sought.ensures c.in-Found.is
 
 pub loop-name-preserved : goal.loop-name-preserved
-loop-name-preserved c = (
-  adding_goes c.loop-name.invariant.0 c.next_of-sought.ensures c.in-Found.is _ c.input-step.ensures.0
-      c.input-step.ensures.1.0 c.input-step.ensures.1.1.0 (input_counts _) c.in-Went.is,
-  recalled_then c.loop-name.invariant.1 c.input-step.ensures.1.1.1,
-)
+loop-name-preserved c =
+    (
+      adding_goes c.loop-name.invariant.0 c.next_of-sought.ensures c.in-Found.is _ c.input-step.ensures.answer
+          c.input-step.ensures.grown c.input-step.ensures.kept (input_counts _) c.in-Went.is,
+      recalled_then c.loop-name.invariant.1 c.input-step.ensures.memory,
+    )

@@ -6,7 +6,7 @@ use borrow.Author.Rules.{rules}
 use Rattle.gate.proofs.checks.check.Goals as goal
 
 pub judged-answer-requires : goal.judged-answer-requires
-judged-answer-requires c = (refl, omega (arith, c.unread.ensures.1))
+judged-answer-requires c = record { extra_value = refl; split_in_bounds = omega (arith, c.unread.ensures.1) }
 
 pub returns : goal.returns
-returns c = (c.judged-answer.ensures.0, c.clear.ensures ∙ ap (λ (n : ℕ). replicate n 0) c.judged-answer.ensures.1)
+returns c = record { answer = c.judged-answer.ensures.answer; cleared = c.clear.ensures ∙ ap (λ (n : ℕ). replicate n 0) c.judged-answer.ensures.size }

@@ -6,4 +6,4 @@ use Rattle.headers.proofs.headers.unheaded.Goals as goal
 
 pub returns : goal.returns
 unfolding ruling_says ruling_of holds
-returns c = (refl, λ model n m seed top lists. tt)
+returns c = record { answer = refl; imported = λ model n m seed top lists. tt }

@@ -14,15 +14,11 @@ returns-then-below-eq0 c = seek_none _ _ _ _ c.if-below-eq0.true
 pub slice_bounds-find-count : goal.slice_bounds-find-count
 slice_bounds-find-count c = known_some c.args.cells.now (omega (arith, c.if-below-eq0.false, c.requires.1))
 
+pub slice_bounds-find-start : goal.slice_bounds-find-start
+slice_bounds-find-start c = known_some c.args.cells.now (omega (arith, c.if-below-eq0.false, c.requires.1))
+
 pub find-requires : goal.find-requires
 find-requires c = (lent_index _ _ _ c.requires.0 c.known-used.ensures.0, omega (arith, c.requires.1, c.known-used.ensures.0))
 
 pub returns : goal.returns
 returns c = c.find.ensures ∙ ap (λ (t : List ℕ). seek c.args.name.now (names_in c.args.model.now t c.args.below)) (table_lent _)
-
--- LEFT -- no goal slice-bounds-find-start:
--- part-find-start : tie.Need-slice-bounds-find-start
--- part-find-start c =
---     let c1 = c.before in
---     let entry = c1.before.before.before.before in
---     known_some entry.args.cells.now (omega (arith, c1.if1.false, entry.requires.1))

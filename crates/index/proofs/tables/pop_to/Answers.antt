@@ -12,4 +12,6 @@ pub shape_of-table : goal.shape_of-table
 shape_of-table c = c.loop-i.invariant.stays.size
 
 pub returns : goal.returns
-returns c = popping_end c.loop-i.invariant c.loop-i-test.false
+returns c =
+    let rest = popping_end c.loop-i.invariant c.loop-i-test.false in
+    record { indexed = rest.0; stays = rest.1 }

@@ -16,7 +16,7 @@ returns-then-is_listed c =
     ∙ attribute_twice _ _ _ _ c.read_name-naming.ensures w c.in-Named.is c.text.ensures c.is_listed.ensures c.if-is_listed.true
 
 pub value_rules-requires : goal.value_rules-requires
-value_rules-requires c = c.requires.0
+value_rules-requires c = c.requires.listed
 
 pub returns-in-Refused : goal.returns-in-Refused
 unfolding earlier_in tally_says
@@ -32,4 +32,4 @@ returns-in-Kept c =
 
 pub is_listed-requires : goal.is_listed-requires
 unfolding earlier_in
-is_listed-requires c = (c.requires.1, rw c.text.ensures (named_some _ _ _ _ _ c.read_name-naming.ensures c.in-Named.is))
+is_listed-requires c = record { listed = c.requires.listed_2; text_value = rw c.text.ensures (named_some _ _ _ _ _ c.read_name-naming.ensures c.in-Named.is) }

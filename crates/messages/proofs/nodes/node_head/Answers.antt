@@ -26,10 +26,10 @@ returns c =
     (c.is_imported.ensures ∙ ap (member _) (imported_by _ _ c.import_number.ensures)) c.if-not-is_imported.false _ (c.node_name.ensures (more w _))
 
 pub is_imported-requires : goal.is_imported-requires
-is_imported-requires c = rw (imported_by _ c.args.s c.import_number.ensures) c.requires.0
+is_imported-requires c = rw (imported_by _ c.args.s c.import_number.ensures) c.requires.imported
 
 pub node_name-requires : goal.node_name-requires
-node_name-requires c = c.requires.1
+node_name-requires c = c.requires.listed
 
 pub adding-requires : goal.adding-requires
 adding-requires c =

@@ -35,4 +35,4 @@ returns c =
 
 pub is_listed-requires : goal.is_listed-requires
 unfolding earlier_in
-is_listed-requires c = (c.requires, empty_some _ c.if-text-eq0.false)
+is_listed-requires c = record { listed = c.requires; text_value = empty_some _ c.if-text-eq0.false }

@@ -4,10 +4,10 @@ use borrow.Author.Rules.{rules}
 use Rattle.messages.proofs.references.is_attribute.Goals as goal
 
 pub has-requires : goal.has-requires
-has-requires c = (c.requires.0.index, c.requires.0.fits)
+has-requires c = record { indexed = c.requires.listed.index; top_bound = c.requires.listed.fits }
 
 pub returns-then-l : goal.returns-then-l
-returns-then-l c = c.has.ensures ∙ c.requires.0.finds c.if-l.true _ c.requires.1
+returns-then-l c = c.has.ensures ∙ c.requires.listed.finds c.if-l.true _ c.requires.name_value
 
 pub returns-then-is_earlier_field : goal.returns-then-is_earlier_field
 returns-then-is_earlier_field c = attribute_first _ _ _ _ _ c.is_earlier_field.ensures c.if-is_earlier_field.true

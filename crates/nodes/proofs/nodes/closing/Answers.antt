@@ -9,30 +9,27 @@ use borrow.Author.Rules.{rules}
 use Rattle.nodes.proofs.nodes.closing.Goals as goal
 
 pub returns-then-not-has : goal.returns-then-not-has
-returns-then-not-has c = (
-  c.stopped.ensures.0 _ _ ∙ closing_none _ _ _ _ c.has.ensures c.if-not-has.true,
-  (c.stopped.ensures.1 _, (keeps_all _ _, recalled_none c.requires.1.1.1.1)),
-)
+returns-then-not-has c =
+    let rest =  in
+    record { answer = c.stopped.ensures.answer _ _ ∙ closing_none _ _ _ _ c.has.ensures c.if-not-has.true; grown = (c.stopped.ensures.grown _, (keeps_all _ _, recalled_none c.requires.recalling)); kept = rest.0; memory = rest.1 }
 
 pub node_outputs-step-requires : goal.node_outputs-step-requires
-node_outputs-step-requires c = (c.requires.0, (c.requires.1.0, c.requires.1.1.1))
+node_outputs-step-requires c = record { model_len_bound = c.requires.model_len_bound; walked = c.requires.walked; countable = c.requires.countable; recalling = c.requires.recalling }
 
 pub returns-in_default : goal.returns-in_default
-returns-in_default c = (
-  closing_stops _ _ _ _ c.has.ensures c.if-not-has.false _ _ c.node_outputs-step.ensures.0 c.in_default.is,
-  c.node_outputs-step.ensures.1,
-)
+returns-in_default c =
+    let rest =  in
+    record { answer = closing_stops _ _ _ _ c.has.ensures c.if-not-has.false _ _ c.node_outputs-step.ensures.answer c.in_default.is; grown = (c.node_outputs-step.ensures.grown, (c.node_outputs-step.ensures.kept, c.node_outputs-step.ensures.memory)); kept = rest.0; memory = rest.1 }
 
 pub overflow_add-result : goal.overflow_add-result
 unfolding walk_in
 overflow_add-result c =
-    let still = closing_still _ _ _ _ c.has.ensures c.if-not-has.false _ _ c.node_outputs-step.ensures.0 c.in-Went.is in
-    let low = c.requires.1.1.0 in
+    let still = closing_still _ _ _ _ c.has.ensures c.if-not-has.false _ _ c.node_outputs-step.ensures.answer c.in-Went.is in
+    let low = c.requires.nodes_bound in
     omega arith
 
 pub returns : goal.returns
 unfolding grows
-returns c = (
-  closing_went _ _ _ _ c.has.ensures c.if-not-has.false _ _ c.node_outputs-step.ensures.0 c.in-Went.is,
-  (subst (grows _) c.in-Went.is c.node_outputs-step.ensures.1.0, c.node_outputs-step.ensures.1.1),
-)
+returns c =
+    let rest =  in
+    record { answer = closing_went _ _ _ _ c.has.ensures c.if-not-has.false _ _ c.node_outputs-step.ensures.answer c.in-Went.is; grown = (subst (grows _) c.in-Went.is c.node_outputs-step.ensures.grown, (c.node_outputs-step.ensures.kept, c.node_outputs-step.ensures.memory)); kept = rest.0; memory = rest.1 }

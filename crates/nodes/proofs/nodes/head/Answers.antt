@@ -3,4 +3,6 @@ use borrow.Author.Rules.{rules}
 use Rattle.nodes.proofs.nodes.head.Goals as goal
 
 pub node_head-requires : goal.node_head-requires
-node_head-requires c = rw (others_lent _ _) c.requires.1
+node_head-requires c =
+    let rest = rw (others_lent _ _) (c.requires.imported, c.requires.listed) in
+    record { imported = rest.0; listed = rest.1 }

@@ -13,7 +13,7 @@ pub returns-in_default : goal.returns-in_default
 returns-in_default c = λ w s. input_bad _ w _ c.text-text.ensures c.if-text-eq0.false (c.tested-tally.ensures w) c.in_default.is
 
 pub sees-requires : goal.sees-requires
-sees-requires c = (c.requires, empty_some _ c.if-text-eq0.false)
+sees-requires c = record { recalling = c.requires; name_value = empty_some _ c.if-text-eq0.false }
 
 pub returns-then-sees : goal.returns-then-sees
 unfolding tally_says

@@ -26,7 +26,7 @@ returns-in_default c =
     ∙ outputs_any _ _ _ k e _
 
 pub graph_output-tally-requires : goal.graph_output-tally-requires
-graph_output-tally-requires c = (c.requires.0, tallying_room c.loop-f.invariant c.next_of-sought.ensures c.in-Found.is _ c.contents-c.ensures c.requires.1)
+graph_output-tally-requires c = record { recalling = c.requires.recalling; f_len_bound = tallying_room c.loop-f.invariant c.next_of-sought.ensures c.in-Found.is _ c.contents-c.ensures c.requires.graph_len_bound }
 
 pub returns-in_default-tally : goal.returns-in_default-tally
 unfolding more
@@ -38,7 +38,7 @@ returns-in_default-tally c =
 
 pub overflow_add-odd : goal.overflow_add-odd
 overflow_add-odd c =
-    let sum = tallying_sum c.loop-f.invariant c.next_of-sought.ensures c.in-Found.is _ c.contents-c.ensures c.requires.1
+    let sum = tallying_sum c.loop-f.invariant c.next_of-sought.ensures c.in-Found.is _ c.contents-c.ensures c.requires.graph_len_bound
     (listed_few _ _ _ _ _ c.graph_output-tally.ensures c.in-Counted.is) in
     omega arith
 

@@ -13,31 +13,29 @@ use Rattle.nodes.proofs.outputs.node_output.Goals as goal
 
 pub returns-then-text-eq0 : goal.returns-then-text-eq0
 unfolding step_says grows
-returns-then-text-eq0 c = (output_out _ _ _ _ c.text-text.ensures c.if-text-eq0.true, (omega arith, (keeps_all _ _, recalled_none c.requires.1.1.1)))
+returns-then-text-eq0 c = record { answer = output_out _ _ _ _ c.text-text.ensures c.if-text-eq0.true; grown = omega arith; kept = keeps_all _ _; memory = recalled_none c.requires.recalling }
 
 pub with_odd-requires : goal.with_odd-requires
 unfolding Countable field_names
 with_odd-requires c =
     let few = tested_few _ c.tested.ensures c.in-Counted.is in
-    let room = c.requires.1.0 in
+    let room = c.requires.countable in
     omega arith
 
 pub define-requires : goal.define-requires
-define-requires c = (c.requires.0, (ap is_empty (sym c.text-text.ensures) ∙ empty_some _ c.if-text-eq0.false, c.requires.1.1))
+define-requires c = record { direct = c.requires.direct; name_value = ap is_empty (sym c.text-text.ensures) ∙ empty_some _ c.if-text-eq0.false; model_len_bound = c.requires.model_len_bound; recalling = c.requires.recalling }
 
 pub returns-in-Refused : goal.returns-in-Refused
 unfolding step_says grows
-returns-in-Refused c = (
-  output_bad _ _ _ _ c.text-text.ensures c.if-text-eq0.false (c.tested.ensures _) c.in-Refused.is,
-  (tt, (keeps_all _ _, recalled_none c.requires.1.1.1)),
-)
+returns-in-Refused c =
+    let rest =  in
+    record { answer = output_bad _ _ _ _ c.text-text.ensures c.if-text-eq0.false (c.tested.ensures _) c.in-Refused.is; grown = (tt, (keeps_all _ _, recalled_none c.requires.recalling)); kept = rest.0; memory = rest.1 }
 
 pub returns-in-Counted : goal.returns-in-Counted
-returns-in-Counted c = (
-  odd_says _ _ c.with_odd.ensures _ _ _ _ _ _ c.define.ensures.0
-      ∙ output_new _ _ _ _ c.text-text.ensures c.if-text-eq0.false (c.tested.ensures _) c.in-Counted.is,
-  (
-    odd_grows _ _ c.with_odd.ensures _ c.define.ensures.1.0,
-    (odd_keeps _ _ c.with_odd.ensures c.define.ensures.1.1.0, c.define.ensures.1.1.1),
-  ),
-)
+returns-in-Counted c =
+    let rest =  in
+    record { answer = odd_says _ _ c.with_odd.ensures _ _ _ _ _ _ c.define.ensures.answer
+          ∙ output_new _ _ _ _ c.text-text.ensures c.if-text-eq0.false (c.tested.ensures _) c.in-Counted.is; grown = (
+        odd_grows _ _ c.with_odd.ensures _ c.define.ensures.grown,
+        (odd_keeps _ _ c.with_odd.ensures c.define.ensures.kept, c.define.ensures.memory),
+      ); kept = rest.0; memory = rest.1 }

@@ -17,7 +17,7 @@ use borrow.Author.Rules.{rules}
 use Rattle.nodes.proofs.outputs.node_outputs.Goals as goal
 
 pub loop-f-init : goal.loop-f-init
-loop-f-init c = (adding_start _ _ _ _ _ _ _ (along_start _ _ _ _ _), recalled_none c.requires.1.1.1)
+loop-f-init c = (adding_start _ _ _ _ _ _ _ (along_start _ _ _ _ _), recalled_none c.requires.recalling)
 
 pub shape_of-extra-in_default : goal.shape_of-extra-in_default
 shape_of-extra-in_default c = c.loop-f.invariant.1.size
@@ -25,32 +25,30 @@ shape_of-extra-in_default c = c.loop-f.invariant.1.size
 pub returns-in_default : goal.returns-in_default
 returns-in_default c =
     let d = adding_done c.loop-f.invariant.0 c.next_of-sought.ensures c.in_default.is in
-    (d.0 ∙ along_contents _ _ _ _ _ c.contents-c.ensures, (d.1.0, (d.1.1, c.loop-f.invariant.1)))
+    record { answer = d.0 ∙ along_contents _ _ _ _ _ c.contents-c.ensures; grown = d.1.0; kept = d.1.1; memory = c.loop-f.invariant.1 }
 
 pub node_output-step-requires : goal.node_output-step-requires
-node_output-step-requires c = (
-  adding_direct c.loop-f.invariant.0 c.next_of-sought.ensures c.in-Found.is c.requires.1.0 c.contents-c.ensures node_output_lem,
-  (
-    adding_countable c.loop-f.invariant.0 c.next_of-sought.ensures c.in-Found.is
-        (from_contents _ _ _ _ _ c.contents-c.ensures c.requires.1.1.0),
-    (c.requires.0, c.loop-f.invariant.1.recalls),
-  ),
-)
+node_output-step-requires c =
+    let rest =  in
+    record { direct = adding_direct c.loop-f.invariant.0 c.next_of-sought.ensures c.in-Found.is c.requires.walked c.contents-c.ensures node_output_lem; countable = (
+        adding_countable c.loop-f.invariant.0 c.next_of-sought.ensures c.in-Found.is
+            (from_contents _ _ _ _ _ c.contents-c.ensures c.requires.countable),
+        (c.requires.model_len_bound, c.loop-f.invariant.1.recalls),
+      ); model_len_bound = rest.0; recalling = rest.1 }
 
 pub returns-in_default-step : goal.returns-in_default-step
 returns-in_default-step c =
-    let d = adding_stops c.loop-f.invariant.0 c.next_of-sought.ensures c.in-Found.is _ c.node_output-step.ensures.0
-    c.node_output-step.ensures.1.0 c.node_output-step.ensures.1.1.0 c.in_default-step.is in (
-      d.0 ∙ along_contents _ _ _ _ _ c.contents-c.ensures,
-      (d.1.0, (d.1.1, recalled_then c.loop-f.invariant.1 c.node_output-step.ensures.1.1.1)),
-    )
+    let d = adding_stops c.loop-f.invariant.0 c.next_of-sought.ensures c.in-Found.is _ c.node_output-step.ensures.answer
+    c.node_output-step.ensures.grown c.node_output-step.ensures.kept c.in_default-step.is in let rest =  in
+    record { answer = d.0 ∙ along_contents _ _ _ _ _ c.contents-c.ensures; grown = (d.1.0, (d.1.1, recalled_then c.loop-f.invariant.1 c.node_output-step.ensures.memory)); kept = rest.0; memory = rest.1 }
 
 pub loop-f-smaller : goal.loop-f-smaller
 loop-f-smaller c = adding_falls c.loop-f.invariant.0 c.next_of-sought.ensures c.in-Found.is
 
 pub loop-f-preserved : goal.loop-f-preserved
-loop-f-preserved c = (
-  adding_goes c.loop-f.invariant.0 c.next_of-sought.ensures c.in-Found.is _ c.node_output-step.ensures.0
-      c.node_output-step.ensures.1.0 c.node_output-step.ensures.1.1.0 (output_counts _) c.in-Went.is,
-  recalled_then c.loop-f.invariant.1 c.node_output-step.ensures.1.1.1,
-)
+loop-f-preserved c =
+    (
+      adding_goes c.loop-f.invariant.0 c.next_of-sought.ensures c.in-Found.is _ c.node_output-step.ensures.answer
+          c.node_output-step.ensures.grown c.node_output-step.ensures.kept (output_counts _) c.in-Went.is,
+      recalled_then c.loop-f.invariant.1 c.node_output-step.ensures.memory,
+    )

@@ -10,44 +10,37 @@ use borrow.Author.Rules.{rules}
 use Rattle.parts.proofs.initializers.initializer.Goals as goal
 
 pub with_odd-t-requires : goal.with_odd-t-requires
-with_odd-t-requires c = initializer_fits _ _ _ c.requires.1.1.0 (named_few _ _ _ _ _ c.read_name.ensures c.in-Named.is)
+with_odd-t-requires c = initializer_fits _ _ _ c.requires.countable (named_few _ _ _ _ _ c.read_name.ensures c.in-Named.is)
 
 pub declare-step-requires : goal.declare-step-requires
-declare-step-requires c = (
-  name_first c.requires.1.0 tensor_name (named_first _ _ _ _ _ c.read_name.ensures c.in-Named.is),
-  (
-    c.requires.0,
-    (c.requires.1.1.1.0, (c.requires.1.1.1.1.0, (c.requires.1.1.1.1.1, named_some _ _ _ _ _ c.read_name.ensures c.in-Named.is))),
-  ),
-)
+declare-step-requires c =
+    let rest =  in
+    record { direct = name_first c.requires.walked tensor_name (named_first _ _ _ _ _ c.read_name.ensures c.in-Named.is); model_len_bound = (
+        c.requires.model_len_bound,
+        (c.requires.recalling, (c.requires.defaultable, (c.requires.listed, named_some _ _ _ _ _ c.read_name.ensures c.in-Named.is))),
+      ); recalling = rest.0; defaultable = rest.1.0; listed = rest.1.1.0; name_value = rest.1.1.1 }
 
 pub returns-in_default : goal.returns-in_default
 returns-in_default c =
     let e = c.with_odd-t.ensures in
-    let d = c.declare-step.ensures in (
-      initializer_stops _ _ _ _ _ _ _ _ c.read_name.ensures c.in-Named.is e _ _ d.0 c.in_default.is,
-      (odd_grows _ _ e _ d.1.0, (odd_keeps _ _ e d.1.1.0, d.1.1.1)),
-    )
+    let d = (c.declare-step.ensures.answer, (c.declare-step.ensures.grown, (c.declare-step.ensures.kept, c.declare-step.ensures.memory))) in let rest =  in
+    record { answer = initializer_stops _ _ _ _ _ _ _ _ c.read_name.ensures c.in-Named.is e _ _ d.0 c.in_default.is; grown = (odd_grows _ _ e _ d.1.0, (odd_keeps _ _ e d.1.1.0, d.1.1.1)); kept = rest.0; memory = rest.1 }
 
 pub returns-then-is_element : goal.returns-then-is_element
 unfolding step_says
 returns-then-is_element c =
     let e = c.with_odd-t.ensures in
-    let d = c.declare-step.ensures in (
-      initializer_goes _ _ _ _ _ _ _ _ c.read_name.ensures c.in-Named.is e _ _ d.0 c.in-Went.is
-          c.number_of.ensures c.is_element.ensures c.if-is_element.true,
-      (subst (grows _) c.in-Went.is (odd_grows _ _ e _ d.1.0), (odd_keeps _ _ e d.1.1.0, d.1.1.1)),
-    )
+    let d = (c.declare-step.ensures.answer, (c.declare-step.ensures.grown, (c.declare-step.ensures.kept, c.declare-step.ensures.memory))) in let rest =  in
+    record { answer = initializer_goes _ _ _ _ _ _ _ _ c.read_name.ensures c.in-Named.is e _ _ d.0 c.in-Went.is
+          c.number_of.ensures c.is_element.ensures c.if-is_element.true; grown = (subst (grows _) c.in-Went.is (odd_grows _ _ e _ d.1.0), (odd_keeps _ _ e d.1.1.0, d.1.1.1)); kept = rest.0; memory = rest.1 }
 
 pub returns-in-Refused : goal.returns-in-Refused
 unfolding step_says grows
-returns-in-Refused c = (initializer_unnamed _ _ _ _ _ _ _ _ c.read_name.ensures c.in-Refused.is, (tt, (keeps_all _ _, recalled_none c.requires.1.1.1.0)))
+returns-in-Refused c = record { answer = initializer_unnamed _ _ _ _ _ _ _ _ c.read_name.ensures c.in-Refused.is; grown = tt; kept = keeps_all _ _; memory = recalled_none c.requires.recalling }
 
 pub returns-else-is_element : goal.returns-else-is_element
 returns-else-is_element c =
     let e = c.with_odd-t.ensures in
-    let d = c.declare-step.ensures in (
-      c.stopped.ensures.0 _ _ ∙ initializer_mistyped _ _ _ _ _ _ _ _ c.read_name.ensures c.in-Named.is e _ _ d.0
-          c.in-Went.is c.number_of.ensures c.is_element.ensures c.if-is_element.false c.place_of.ensures,
-      (c.stopped.ensures.1 _, (odd_keeps _ _ e d.1.1.0, d.1.1.1)),
-    )
+    let d = (c.declare-step.ensures.answer, (c.declare-step.ensures.grown, (c.declare-step.ensures.kept, c.declare-step.ensures.memory))) in let rest =  in
+    record { answer = c.stopped.ensures.answer _ _ ∙ initializer_mistyped _ _ _ _ _ _ _ _ c.read_name.ensures c.in-Named.is e _ _ d.0
+          c.in-Went.is c.number_of.ensures c.is_element.ensures c.if-is_element.false c.place_of.ensures; grown = (c.stopped.ensures.grown _, (odd_keeps _ _ e d.1.1.0, d.1.1.1)); kept = rest.0; memory = rest.1 }

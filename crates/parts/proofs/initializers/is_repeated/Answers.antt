@@ -5,7 +5,7 @@ use Rattle.parts.proofs.initializers.is_repeated.Goals as goal
 
 pub is_listed-requires : goal.is_listed-requires
 unfolding earlier_in
-is_listed-requires c = (rw (others_lent _ _) c.requires.1.0, c.requires.1.1)
+is_listed-requires c = record { listed = rw (others_lent _ _) c.requires.listed; text_value = c.requires.name_value }
 
 pub returns : goal.returns
 unfolding earlier_in

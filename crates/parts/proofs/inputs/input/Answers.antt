@@ -10,37 +10,32 @@ use borrow.Author.Rules.{rules}
 use Rattle.parts.proofs.inputs.input.Goals as goal
 
 pub with_odd-requires : goal.with_odd-requires
-with_odd-requires c = input_fits _ _ _ _ c.requires.1.1.0 (named_few _ _ _ _ _ c.read_name.ensures c.in-Named.is)
+with_odd-requires c = input_fits _ _ _ _ c.requires.countable (named_few _ _ _ _ _ c.read_name.ensures c.in-Named.is)
 
 pub define-step-requires : goal.define-step-requires
-define-step-requires c = (
-  name_first c.requires.1.0 value_info_name (named_first _ _ _ _ _ c.read_name.ensures c.in-Named.is),
-  (named_some _ _ _ _ _ c.read_name.ensures c.in-Named.is, (c.requires.0, c.requires.1.1.1)),
-)
+define-step-requires c =
+    let rest =  in
+    record { direct = name_first c.requires.walked value_info_name (named_first _ _ _ _ _ c.read_name.ensures c.in-Named.is); name_value = (named_some _ _ _ _ _ c.read_name.ensures c.in-Named.is, (c.requires.model_len_bound, c.requires.recalling)); model_len_bound = rest.0; recalling = rest.1 }
 
 pub returns-in_default : goal.returns-in_default
 returns-in_default c =
     let e = c.with_odd.ensures in
-    let d = c.define-step.ensures in (
-      λ k i. input_stops _ _ k _ _ _ _ c.read_name.ensures c.in-Named.is e _ _ d.0 c.in_default.is,
-      (odd_grows _ _ e _ d.1.0, (odd_keeps _ _ e d.1.1.0, d.1.1.1)),
-    )
+    let d = (c.define-step.ensures.answer, (c.define-step.ensures.grown, (c.define-step.ensures.kept, c.define-step.ensures.memory))) in let rest =  in
+    record { answer = λ k i. input_stops _ _ k _ _ _ _ c.read_name.ensures c.in-Named.is e _ _ d.0 c.in_default.is; grown = (odd_grows _ _ e _ d.1.0, (odd_keeps _ _ e d.1.1.0, d.1.1.1)); kept = rest.0; memory = rest.1 }
 
 pub counting-requires : goal.counting-requires
 counting-requires c =
-    input_adds _ _ _ _ c.requires.1.1.0 (named_few _ _ _ _ _ c.read_name.ensures c.in-Named.is) c.with_odd.ensures
-    _ _ _ _ _ c.define-step.ensures.0 c.in-Went.is _ c.main_type.ensures
+    input_adds _ _ _ _ c.requires.countable (named_few _ _ _ _ _ c.read_name.ensures c.in-Named.is) c.with_odd.ensures
+    _ _ _ _ _ c.define-step.ensures.answer c.in-Went.is _ c.main_type.ensures
 
 pub returns-in-Refused : goal.returns-in-Refused
 unfolding step_says grows
-returns-in-Refused c = (λ k e. input_unnamed _ _ k _ _ _ _ c.read_name.ensures c.in-Refused.is, (tt, (keeps_all _ _, recalled_none c.requires.1.1.1)))
+returns-in-Refused c = record { answer = λ k e. input_unnamed _ _ k _ _ _ _ c.read_name.ensures c.in-Refused.is; grown = tt; kept = keeps_all _ _; memory = recalled_none c.requires.recalling }
 
 pub returns-in-Went : goal.returns-in-Went
 returns-in-Went c =
     let e = c.with_odd.ensures in
-    let d = c.define-step.ensures in (
-      λ k i. ap (step_says _ _) c.counting.ensures
+    let d = (c.define-step.ensures.answer, (c.define-step.ensures.grown, (c.define-step.ensures.kept, c.define-step.ensures.memory))) in let rest =  in
+    record { answer = λ k i. ap (step_says _ _) c.counting.ensures
           ∙ input_goes _ _ k _ _ _ _ c.read_name.ensures c.in-Named.is e _ _ d.0 c.in-Went.is _
-          (c.main_type.ensures k _ i),
-      (rw c.counting.ensures (input_grows _ _ (odd_grows _ _ e _ d.1.0) c.in-Went.is _), (odd_keeps _ _ e d.1.1.0, d.1.1.1)),
-    )
+          (c.main_type.ensures k _ i); grown = (rw c.counting.ensures (input_grows _ _ (odd_grows _ _ e _ d.1.0) c.in-Went.is _), (odd_keeps _ _ e d.1.1.0, d.1.1.1)); kept = rest.0; memory = rest.1 }

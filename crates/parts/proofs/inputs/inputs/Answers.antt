@@ -18,7 +18,7 @@ use borrow.Author.Rules.{rules}
 use Rattle.parts.proofs.inputs.inputs.Goals as goal
 
 pub loop-f-init : goal.loop-f-init
-loop-f-init c = (adding_start _ _ _ _ _ _ _ (along_start _ _ _ _ _), recalled_none c.requires.1.1.1)
+loop-f-init c = (adding_start _ _ _ _ _ _ _ (along_start _ _ _ _ _), recalled_none c.requires.recalling)
 
 pub shape_of-extra-in_default : goal.shape_of-extra-in_default
 shape_of-extra-in_default c = c.loop-f.invariant.1.size
@@ -26,36 +26,37 @@ shape_of-extra-in_default c = c.loop-f.invariant.1.size
 pub returns-in_default : goal.returns-in_default
 returns-in_default c =
     let d = adding_done c.loop-f.invariant.0 c.next_of-sought.ensures c.in_default.is in
-    (λ k e. d.0 ∙ along_contents _ _ _ _ _ c.contents-c.ensures ∙ inputs_any _ _ _ k e _ _, (d.1.0, (d.1.1, c.loop-f.invariant.1)))
+    record { answer = λ k e. d.0 ∙ along_contents _ _ _ _ _ c.contents-c.ensures ∙ inputs_any _ _ _ k e _ _; grown = d.1.0; kept = d.1.1; memory = c.loop-f.invariant.1 }
 
 pub input-step-requires : goal.input-step-requires
-input-step-requires c = (
-  c.requires.0,
-  (
-    adding_walked c.loop-f.invariant.0 c.next_of-sought.ensures c.in-Found.is c.requires.1.0 c.contents-c.ensures graph_input,
-    (
-      adding_countable c.loop-f.invariant.0 c.next_of-sought.ensures c.in-Found.is
-          (from_contents _ _ _ _ _ c.contents-c.ensures c.requires.1.1.0),
-      c.loop-f.invariant.1.recalls,
-    ),
-  ),
-)
+input-step-requires c =
+    let rest =  in
+    record { model_len_bound = c.requires.model_len_bound; walked = (
+        adding_walked c.loop-f.invariant.0 c.next_of-sought.ensures c.in-Found.is c.requires.walked c.contents-c.ensures graph_input,
+        (
+          adding_countable c.loop-f.invariant.0 c.next_of-sought.ensures c.in-Found.is
+              (from_contents _ _ _ _ _ c.contents-c.ensures c.requires.countable),
+          c.loop-f.invariant.1.recalls,
+        ),
+      ); countable = rest.0; recalling = rest.1 }
 
 pub returns-in_default-step : goal.returns-in_default-step
 returns-in_default-step c =
-    let d =
-    adding_stops c.loop-f.invariant.0 c.next_of-sought.ensures c.in-Found.is _ (c.input-step.ensures.0 _ refl) c.input-step.ensures.1.0
-    c.input-step.ensures.1.1.0 c.in_default-step.is in (
+    let rest = let d =
+    adding_stops c.loop-f.invariant.0 c.next_of-sought.ensures c.in-Found.is _ (c.input-step.ensures.answer _ refl) c.input-step.ensures.grown
+    c.input-step.ensures.kept c.in_default-step.is in (
       λ k e. d.0 ∙ along_contents _ _ _ _ _ c.contents-c.ensures ∙ inputs_any _ _ _ k e _ _,
-      (d.1.0, (d.1.1, recalled_then c.loop-f.invariant.1 c.input-step.ensures.1.1.1)),
-    )
+      (d.1.0, (d.1.1, recalled_then c.loop-f.invariant.1 c.input-step.ensures.memory)),
+    ) in
+    record { answer = rest.0; grown = rest.1.0; kept = rest.1.1.0; memory = rest.1.1.1 }
 
 pub loop-f-smaller : goal.loop-f-smaller
 loop-f-smaller c = adding_falls c.loop-f.invariant.0 c.next_of-sought.ensures c.in-Found.is
 
 pub loop-f-preserved : goal.loop-f-preserved
-loop-f-preserved c = (
-  adding_goes c.loop-f.invariant.0 c.next_of-sought.ensures c.in-Found.is _ (c.input-step.ensures.0 _ refl) c.input-step.ensures.1.0
-      c.input-step.ensures.1.1.0 (input_counts _ _) c.in-Went.is,
-  recalled_then c.loop-f.invariant.1 c.input-step.ensures.1.1.1,
-)
+loop-f-preserved c =
+    (
+      adding_goes c.loop-f.invariant.0 c.next_of-sought.ensures c.in-Found.is _ (c.input-step.ensures.answer _ refl) c.input-step.ensures.grown
+          c.input-step.ensures.kept (input_counts _ _) c.in-Went.is,
+      recalled_then c.loop-f.invariant.1 c.input-step.ensures.memory,
+    )

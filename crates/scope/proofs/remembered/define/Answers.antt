@@ -9,32 +9,27 @@ use borrow.Author.Rules.{rules}
 use Rattle.scope.proofs.remembered.define.Goals as goal
 
 pub find-found-requires : goal.find-found-requires
-find-found-requires c = (c.requires.1.1.1, ap is_empty c.text.ensures ∙ c.requires.1.0)
+find-found-requires c = record { recalling = c.requires.recalling; name_value = ap is_empty c.text.ensures ∙ c.requires.name_value }
 
 pub returns-in_default : goal.returns-in_default
-returns-in_default c = (
-  c.repeated.ensures.0 _ _ ∙ define_twice _ _ _ _ _ c.text.ensures _ c.find-found.ensures c.in_default.is,
-  (c.repeated.ensures.1 _, (keeps_all _ _, recalled_none c.requires.1.1.1)),
-)
+returns-in_default c =
+    let rest =  in
+    record { answer = c.repeated.ensures.answer _ _ ∙ define_twice _ _ _ _ _ c.text.ensures _ c.find-found.ensures c.in_default.is; grown = (c.repeated.ensures.grown _, (keeps_all _ _, recalled_none c.requires.recalling)); kept = rest.0; memory = rest.1 }
 
 pub returns-then-room-used : goal.returns-then-room-used
 returns-then-room-used c =
-    let full = rw c.room.ensures at c.if-room-used.true in (
-      c.stopped.ensures.0 _ _ ∙ define_full _ _ _ _ _ c.text.ensures _ c.find-found.ensures c.in-Missing.is full,
-      (c.stopped.ensures.1 _, (keeps_all _ _, recalled_none c.requires.1.1.1)),
-    )
+    let full = rw c.room.ensures at c.if-room-used.true in let rest =  in
+    record { answer = c.stopped.ensures.answer _ _ ∙ define_full _ _ _ _ _ c.text.ensures _ c.find-found.ensures c.in-Missing.is full; grown = (c.stopped.ensures.grown _, (keeps_all _ _, recalled_none c.requires.recalling)); kept = rest.0; memory = rest.1 }
 
 pub store-requires : goal.store-requires
-store-requires c = (rw c.room.ensures at c.if-room-used.false, direct_fits _ _ c.requires.0 _ c.requires.1.1.0)
+store-requires c = record { i_bound = rw c.room.ensures at c.if-room-used.false; place_bound = direct_fits _ _ c.requires.direct _ c.requires.model_len_bound }
 
 pub returns : goal.returns
 unfolding grows
 returns c =
     let fits = rw c.room.ensures at c.if-room-used.false in
-    let direct = c.requires.0 in (
-      define_new _ _ _ _ _ c.text.ensures _ c.find-found.ensures c.in-Missing.is direct _ c.store.ensures _ c.max.ensures fits,
-      (
+    let direct = c.requires.direct in let rest =  in
+    record { answer = define_new _ _ _ _ _ c.text.ensures _ c.find-found.ensures c.in-Missing.is direct _ c.store.ensures _ c.max.ensures fits; grown = (
         omega arith,
-        (keeps_stored _ _ _ _ c.store.ensures, recalled_more c.requires.1.1.1 _ fits c.args.name direct c.store.ensures c.remember.ensures),
-      ),
-    )
+        (keeps_stored _ _ _ _ c.store.ensures, recalled_more c.requires.recalling _ fits c.args.name direct c.store.ensures c.remember.ensures),
+      ); kept = rest.0; memory = rest.1 }

@@ -5,13 +5,13 @@ use borrow.Author.Rules.{rules}
 use Rattle.scope.proofs.remembered.remember.Goals as goal
 
 pub slice_bounds-remember_name-end : goal.slice_bounds-remember_name-end
-slice_bounds-remember_name-end c = c.requires.0.fits
+slice_bounds-remember_name-end c = c.requires.remembering.fits
 
 pub slice_bounds-remember_name-end-2 : goal.slice_bounds-remember_name-end-2
-slice_bounds-remember_name-end-2 c = sym (length-take-le _ _ c.requires.0.fits)
+slice_bounds-remember_name-end-2 c = sym (length-take-le _ _ c.requires.remembering.fits)
 
 pub remember_name-requires : goal.remember_name-requires
-remember_name-requires c = (c.requires.0.names, c.requires.1)
+remember_name-requires c = record { indexed = c.requires.remembering.names; model_len_bound = c.requires.model_len_bound }
 
 pub returns : goal.returns
-returns c = remembered_on _ c.requires.0.fits c.remember_name.ensures
+returns c = remembered_on _ c.requires.remembering.fits c.remember_name.ensures

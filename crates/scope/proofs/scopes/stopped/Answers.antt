@@ -5,4 +5,4 @@ use Rattle.scope.proofs.scopes.stopped.Goals as goal
 
 pub returns : goal.returns
 unfolding step_says grows
-returns c = (λ model cells. refl, λ p. tt)
+returns c = record { answer = λ model cells. refl; grown = λ p. tt }

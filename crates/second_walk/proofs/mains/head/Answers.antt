@@ -4,13 +4,13 @@ use borrow.Author.Rules.{rules}
 use Rattle.second_walk.proofs.mains.head.Goals as goal
 
 pub header-requires : goal.header-requires
-header-requires c = rw (others_lent _ _) (c.requires.0, (c.requires.1.0.lists, c.requires.1.1))
+header-requires c =
+    let rest = rw (others_lent _ _) (c.requires.outlined, (c.requires.remembering.lists, c.requires.model_len_bound)) in
+    record { outlined = rest.0; indexed = rest.1.0; model_len_bound = rest.1.1 }
 
 pub returns : goal.returns
-returns c = (
-  c.header.ensures.0,
-  (
-    holds_on _ _ _ c.args.ix _ _ c.requires.1.0.fits _ _ c.header.ensures.1.0,
-    held_on c.args.ix c.requires.1.0.fits c.header.ensures.1.1,
-  ),
-)
+returns c =
+    record { answer = c.header.ensures.answer; imported = (
+        holds_on _ _ _ c.args.ix _ _ c.requires.remembering.fits _ _ c.header.ensures.imported,
+        held_on c.args.ix c.requires.remembering.fits c.header.ensures.held,
+      ); held =  }

@@ -4,7 +4,11 @@ use borrow.Author.Rules.{rules}
 use Rattle.second_walk.proofs.model_functions.add_function.Goals as goal
 
 pub add-requires : goal.add-requires
-add-requires c = rw (others_lent _ _) (c.requires.0, c.requires.1.1)
+add-requires c =
+    let rest = rw (others_lent _ _) (c.requires.identified, c.requires.model_len_bound) in
+    record { identified = rest.0; model_len_bound = rest.1 }
 
 pub returns : goal.returns
-returns c = added_on _ c.requires.1.0 c.add.ensures
+returns c =
+    let rest = added_on _ c.requires.last_in_bounds c.add.ensures in
+    record { added = rest.0; names = rest.1.0; lent = rest.1.1 }

@@ -5,13 +5,12 @@ use borrow.Author.Rules.{rules}
 use Rattle.second_walk.proofs.model_functions.judge_function.Goals as goal
 
 pub slice_bounds-function-end-2 : goal.slice_bounds-function-end-2
-slice_bounds-function-end-2 c = sym (length-take-le _ _ c.requires.1.0)
+slice_bounds-function-end-2 c = sym (length-take-le _ _ c.requires.last_in_bounds)
 
 pub returns : goal.returns
-returns c = (
-  c.function.ensures.0,
-  (
-    c.function.ensures.1.0,
-    (c.function.ensures.1.1.0, first_on _ c.requires.1.0 c.function.ensures.1.1.1.0 c.function.ensures.1.1.1.1),
-  ),
-)
+returns c =
+    let rest =  in
+    record { answer = c.function.ensures.answer; counts = (
+        c.function.ensures.counts,
+        (c.function.ensures.size, first_on _ c.requires.last_in_bounds c.function.ensures.lent c.function.ensures.memory),
+      ); size = rest.0; lent = rest.1.0; memory = rest.1.1.0; table = rest.1.1.1 }

@@ -9,7 +9,7 @@ pub returns-in_default : goal.returns-in_default
 returns-in_default c = λ w. ap (tally_says w) c.tally_of.ensures ∙ default_nameless _ _ _ c.read_name-naming.ensures w c.in_default.is
 
 pub is_attribute-requires : goal.is_attribute-requires
-is_attribute-requires c = (c.requires, rw c.text.ensures (named_some _ _ _ _ _ c.read_name-naming.ensures c.in-Named.is))
+is_attribute-requires c = record { listed = c.requires; name_value = rw c.text.ensures (named_some _ _ _ _ _ c.read_name-naming.ensures c.in-Named.is) }
 
 pub returns-then-is_attribute : goal.returns-then-is_attribute
 returns-then-is_attribute c =

@@ -8,29 +8,23 @@ use borrow.Author.Rules.{rules}
 use Rattle.signatures.proofs.signatures.all_attributes.Goals as goal
 
 pub returns-in_default : goal.returns-in_default
-returns-in_default c = (
-  attributes_refused _ _ c.attribute_names-listed.ensures.0 c.in_default.is,
-  (refused_none c.in_default.is _ _ _ _ _, c.attribute_names-listed.ensures.1.1),
-)
+returns-in_default c = record { answer = attributes_refused _ _ c.attribute_names-listed.ensures.answer c.in_default.is; listed = (refused_none c.in_default.is _ _ _ _ _, c.attribute_names-listed.ensures.held); held =  }
 
 pub defaults-requires : goal.defaults-requires
-defaults-requires c = (told_listed _ _ _ _ _ c.attribute_names-listed.ensures.1.0 c.in-Listed.is, c.requires.1)
+defaults-requires c = record { listed_2 = told_listed _ _ _ _ _ c.attribute_names-listed.ensures.listed c.in-Listed.is; model_len_bound = c.requires.model_len_bound; next_in_bounds = c.requires.next_in_bounds }
 
 pub counting-requires : goal.counting-requires
 counting-requires c =
     let first = attributes_few c.args.model.now c.args.f in
     let second = defaults_few c.args.model.now c.args.f in
-    let size = c.requires.1 in
-    room _ _ (told_few _ _ _ _ _ c.attribute_names-listed.ensures.1.0 c.in-Listed.is) _ _ _ _ _ c.defaults.ensures.1.0 (omega arith)
+    let size = (c.requires.model_len_bound, c.requires.next_in_bounds) in
+    room _ _ (told_few _ _ _ _ _ c.attribute_names-listed.ensures.listed c.in-Listed.is) _ _ _ _ _ c.defaults.ensures.listed (omega arith)
 
 pub returns : goal.returns
 returns c =
-    let few = told_few _ _ _ _ _ c.attribute_names-listed.ensures.1.0 c.in-Listed.is in (
-      λ w. counting_as _ _ c.counting.ensures w
-          ∙ attributes_listed _ _ c.attribute_names-listed.ensures.0 c.in-Listed.is _ c.defaults.ensures.0 w,
-      (
+    let few = told_few _ _ _ _ _ c.attribute_names-listed.ensures.listed c.in-Listed.is in record { answer = λ w. counting_as _ _ c.counting.ensures w
+          ∙ attributes_listed _ _ c.attribute_names-listed.ensures.answer c.in-Listed.is _ c.defaults.ensures.answer w; listed = (
         rw (names_both c.args.model.now c.args.f)
-            (counting_lists _ _ c.counting.ensures few _ _ _ _ _ c.defaults.ensures.1.0),
-        held_then c.attribute_names-listed.ensures.1.1 c.defaults.ensures.1.1,
-      ),
-    )
+            (counting_lists _ _ c.counting.ensures few _ _ _ _ _ c.defaults.ensures.listed),
+        held_then c.attribute_names-listed.ensures.held c.defaults.ensures.held,
+      ); held =  }

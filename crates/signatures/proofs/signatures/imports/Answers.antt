@@ -7,13 +7,10 @@ use borrow.Author.Rules.{rules}
 use Rattle.signatures.proofs.signatures.imports.Goals as goal
 
 pub returns-then-not-has : goal.returns-then-not-has
-returns-then-not-has c = (
-  c.unheaded.ensures.0 ∙ imports_none _ _ _ c.has.ensures c.if-not-has.true,
-  (c.unheaded.ensures.1 _ _ _ _ _ _, held_all c.requires.0 c.requires.1.0),
-)
+returns-then-not-has c = record { answer = c.unheaded.ensures.answer ∙ imports_none _ _ _ c.has.ensures c.if-not-has.true; imported = (c.unheaded.ensures.imported _ _ _ _ _ _, held_all c.requires.indexed c.requires.top_bound); held =  }
 
 pub opset_imports-requires : goal.opset_imports-requires
-opset_imports-requires c = (imports_from _ _ c.args.f, (c.requires.0, (c.requires.1.0, c.requires.1.1)))
+opset_imports-requires c = record { imports_from = imports_from _ _ c.args.f; indexed = c.requires.indexed; top_bound = c.requires.top_bound; model_len_bound = c.requires.model_len_bound }
 
 pub returns : goal.returns
-returns c = (imports_some _ _ _ c.has.ensures c.if-not-has.false c.opset_imports.ensures.0, c.opset_imports.ensures.1)
+returns c = record { answer = imports_some _ _ _ c.has.ensures c.if-not-has.false c.opset_imports.ensures.answer; imported = c.opset_imports.ensures.imported; held = c.opset_imports.ensures.held }

@@ -8,32 +8,26 @@ use Rattle.signatures.proofs.signatures.read_signature.Goals as goal
 
 pub imports-requires : goal.imports-requires
 imports-requires c =
-    let listed = told_listed _ _ _ _ _ c.named.ensures.1.0 c.in-Listed.is in
-    (listed.index, (omega arith, c.requires.1.0))
+    let listed = told_listed _ _ _ _ _ c.named.ensures.listed c.in-Listed.is in
+    record { indexed = listed.index; top_bound = omega arith; model_len_bound = c.requires.model_len_bound }
 
 pub returns-in-Refused : goal.returns-in-Refused
 unfolding signature_says declares
-returns-in-Refused c = (signature_refused _ _ _ _ c.named.ensures.0 c.in-Refused.is, (tt, c.named.ensures.1.1))
+returns-in-Refused c = record { answer = signature_refused _ _ _ _ c.named.ensures.answer c.in-Refused.is; declared = tt; held = c.named.ensures.held }
 
 pub returns-in-Refused-imports : goal.returns-in-Refused-imports
 unfolding signature_says declares
-returns-in-Refused-imports c = (
-  signature_unimported _ _ _ _ c.named.ensures.0 c.in-Listed.is c.imports.ensures.0 c.in-Refused-imports.is,
-  (tt, held_then c.named.ensures.1.1 (held_fewer (omega arith) c.imports.ensures.1.1)),
-)
+returns-in-Refused-imports c = record { answer = signature_unimported _ _ _ _ c.named.ensures.answer c.in-Listed.is c.imports.ensures.answer c.in-Refused-imports.is; declared = (tt, held_then c.named.ensures.held (held_fewer (omega arith) c.imports.ensures.held)); held =  }
 
 pub returns-in-Imported : goal.returns-in-Imported
 unfolding signature_says declares
 returns-in-Imported c =
-    let imported = held_imports _ _ _ _ _ _ c.imports.ensures.1.0 c.in-Imported.is in (
-      signature_imported _ _ _ _ c.named.ensures.0 c.in-Listed.is c.imports.ensures.0 c.in-Imported.is,
-      (
+    let imported = held_imports _ _ _ _ _ _ c.imports.ensures.imported c.in-Imported.is in record { answer = signature_imported _ _ _ _ c.named.ensures.answer c.in-Listed.is c.imports.ensures.answer c.in-Imported.is; declared = (
         (
-          listed_held c.imports.ensures.1.1 (told_listed _ _ _ _ _ c.named.ensures.1.0 c.in-Listed.is),
+          listed_held c.imports.ensures.held (told_listed _ _ _ _ _ c.named.ensures.listed c.in-Listed.is),
           imported.0,
           imported.1,
-          told_few _ _ _ _ _ c.named.ensures.1.0 c.in-Listed.is,
+          told_few _ _ _ _ _ c.named.ensures.listed c.in-Listed.is,
         ),
-        held_then c.named.ensures.1.1 (held_fewer (omega arith) c.imports.ensures.1.1),
-      ),
-    )
+        held_then c.named.ensures.held (held_fewer (omega arith) c.imports.ensures.held),
+      ); held =  }
