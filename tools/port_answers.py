@@ -267,7 +267,8 @@ def parts_of(text):
             commas.append(i)
     if not commas:
         return None
-    return [text[a + 1 : b].strip() for a, b in zip([0] + commas, commas + [len(text) - 1])]
+    parts = [text[a + 1 : b].strip() for a, b in zip([0] + commas, commas + [len(text) - 1])]
+    return parts if parts[-1] else parts[:-1]
 
 
 def in_record(text, names):
@@ -304,9 +305,8 @@ def loop_binders(entry, old):
         if plain(was) == plain(old):
             i = [plain(x[0][0]) for x in entry["loops"]].index(plain(old))
             changed = entry["changed"][i]
-            fixed = [v for v, c in zip(variables, changed) if not c]
-            moving = [v for v, c in zip(variables, changed) if c]
-            return new, [("l." + v) for v in fixed] + [("l.initial." + v) for v in moving] + [("l." + v) for v in moving]
+            first = [("l.initial." if c else "l.") + v for v, c in zip(variables, changed)]
+            return new, first + ["l." + v for v, c in zip(variables, changed) if c]
     return None, None
 
 

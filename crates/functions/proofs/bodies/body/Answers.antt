@@ -15,15 +15,7 @@ returns-in_default c =
     record { answer = rest.0; grown = rest.1.0; counts = rest.1.1.0; kept = rest.1.1.1.0; memory = rest.1.1.1.1 }
 
 pub nodes-ran-requires : goal.nodes-ran-requires
-nodes-ran-requires c =
-    let rest =  in
-    record { enters = body_enters _ c.args.left c.args.s _ _ _ _ _ c.inputs-bound.ensures.answer c.inputs-bound.ensures.grown c.inputs-bound.ensures.kept c.in-Went.is c.requires.enters; minds = (
-        minds_still c.requires.minds (minded_recalled c.requires.minds.fits c.inputs-bound.ensures.memory),
-        (
-          body_nodes_countable _ _ c.args.s _ _ _ _ _ c.inputs-bound.ensures.answer c.inputs-bound.ensures.grown c.inputs-bound.ensures.kept c.in-Went.is c.requires.countable,
-          c.requires.nodes_value,
-        ),
-      ); countable = rest.0; nodes_value = rest.1 }
+nodes-ran-requires c = record { enters = body_enters _ c.args.left c.args.s _ _ _ _ _ c.inputs-bound.ensures.answer c.inputs-bound.ensures.grown c.inputs-bound.ensures.kept c.in-Went.is c.requires.enters; minds = minds_still c.requires.minds (minded_recalled c.requires.minds.fits c.inputs-bound.ensures.memory); countable = body_nodes_countable _ _ c.args.s _ _ _ _ _ c.inputs-bound.ensures.answer c.inputs-bound.ensures.grown c.inputs-bound.ensures.kept c.in-Went.is c.requires.countable; nodes_value = c.requires.nodes_value }
 
 pub returns-in_default-ran : goal.returns-in_default-ran
 returns-in_default-ran c =

@@ -39,15 +39,13 @@ returns-in_default c =
 
 pub node-step-requires : goal.node-step-requires
 node-step-requires c =
-    let rest =  in
-    record { enters = going_enters c.loop-n.invariant.0 c.next_of-sought.ensures c.in-Found.is c.requires.enters.short c.requires.enters.walked (own_contents _) function_node
-          (enters_low c.requires.enters); minds = (
-        minds_higher c.loop-n.invariant.2 c.loop-n.invariant.1.above (lists_fits c.loop-n.invariant.1),
-        (
-          rw c.requires.nodes_value (lists_found c.loop-n.invariant.1 c.next_of-sought.ensures c.in-Found.is),
-          going_countable c.loop-n.invariant.0 c.next_of-sought.ensures c.in-Found.is (nodes_countable _ _ _ _ c.requires.countable),
-        ),
-      ); listed = rest.0; countable = rest.1 }
+    record {
+      enters = going_enters c.loop-n.invariant.0 c.next_of-sought.ensures c.in-Found.is c.requires.enters.short c.requires.enters.walked (own_contents _) function_node
+          (enters_low c.requires.enters);
+      minds = minds_higher c.loop-n.invariant.2 c.loop-n.invariant.1.above (lists_fits c.loop-n.invariant.1);
+      listed = rw c.requires.nodes_value (lists_found c.loop-n.invariant.1 c.next_of-sought.ensures c.in-Found.is);
+      countable = going_countable c.loop-n.invariant.0 c.next_of-sought.ensures c.in-Found.is (nodes_countable _ _ _ _ c.requires.countable);
+    }
 
 pub returns-in_default-step : goal.returns-in_default-step
 returns-in_default-step c =
@@ -63,13 +61,12 @@ pub loop-n-smaller : goal.loop-n-smaller
 loop-n-smaller c = going_falls c.loop-n.invariant.0 c.next_of-sought.ensures c.in-Found.is
 
 pub loop-n-preserved : goal.loop-n-preserved
-loop-n-preserved c =
-    (
-      going_goes c.loop-n.invariant.0 c.next_of-sought.ensures c.in-Found.is _ c.node-step.ensures.answer c.node-step.ensures.grown
-          c.node-step.ensures.kept (nodes_count _ _ _ _) c.node-step.ensures.counts c.in-Went.is,
-      lists_next c.loop-n.invariant.1 c.next_of-sought.ensures c.in-Found.is c.node-step.ensures.memory c.list-l.ensures,
-      lists_minds c.loop-n.invariant.1 c.next_of-sought.ensures c.in-Found.is c.loop-n.invariant.2 c.node-step.ensures.memory c.list-l.ensures,
-    )
+loop-n-preserved c = (
+  going_goes c.loop-n.invariant.0 c.next_of-sought.ensures c.in-Found.is _ c.node-step.ensures.answer c.node-step.ensures.grown
+      c.node-step.ensures.kept (nodes_count _ _ _ _) c.node-step.ensures.counts c.in-Went.is,
+  lists_next c.loop-n.invariant.1 c.next_of-sought.ensures c.in-Found.is c.node-step.ensures.memory c.list-l.ensures,
+  lists_minds c.loop-n.invariant.1 c.next_of-sought.ensures c.in-Found.is c.loop-n.invariant.2 c.node-step.ensures.memory c.list-l.ensures,
+)
 
 pub shape_of-cells-in_default : goal.shape_of-cells-in_default
 shape_of-cells-in_default c = c.loop-n.invariant.0.adding.kept.size

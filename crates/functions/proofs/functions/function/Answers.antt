@@ -14,30 +14,12 @@ overflow_add-start c = record { fits = begun_fits _ _ _ c.args.version _ c.args.
 
 pub body-requires : goal.body-requires
 unfolding within
-body-requires c =
-    let rest =  in
-    record { enters = begun_enters c.requires.enters refl; minds = (
-        begun_minds c.requires.recalling c.head.ensures.held _ _ c.head.ensures.declared c.in-Declared.is,
-        (
-          begun_countable _ _ _ c.args.version _ c.args.cells.now _ _ _ c.head.ensures.answer c.in-Declared.is _ _ c.head.ensures.declared c.requires.countable,
-          refl,
-        ),
-      ); countable = rest.0; nodes_value = rest.1 }
+body-requires c = record { enters = begun_enters c.requires.enters refl; minds = begun_minds c.requires.recalling c.head.ensures.held _ _ c.head.ensures.declared c.in-Declared.is; countable = begun_countable _ _ _ c.args.version _ c.args.cells.now _ _ _ c.head.ensures.answer c.in-Declared.is _ _ c.head.ensures.declared c.requires.countable; nodes_value = refl }
 
 pub returns-in-Refused : goal.returns-in-Refused
 unfolding counted
-returns-in-Refused c =
-    let rest =  in
-    record { answer = function_unread _ _ c.args.left c.args.version _ c.args.cells.now c.args.p _ _ c.head.ensures.answer c.in-Refused.is _; counts = (tt, (refl, (c.head.ensures.held.size, recalling_held c.requires.recalling c.head.ensures.held))); size = rest.0; lent = rest.1.0; memory = rest.1.1 }
+returns-in-Refused c = record { answer = function_unread _ _ c.args.left c.args.version _ c.args.cells.now c.args.p _ _ c.head.ensures.answer c.in-Refused.is _; counts = tt; size = refl; lent = c.head.ensures.held.size; memory = recalling_held c.requires.recalling c.head.ensures.held }
 
 pub returns-in-Declared : goal.returns-in-Declared
 unfolding within
-returns-in-Declared c =
-    let rest =  in
-    record { answer = c.body.ensures.answer ∙ function_begun _ _ c.args.left c.args.version _ c.args.cells.now c.args.p _ _ c.head.ensures.answer c.in-Declared.is; counts = (
-        begun_counts _ _ _ refl _ c.body.ensures.counts,
-        (
-          c.body.ensures.kept.size,
-          (c.body.ensures.memory.size ∙ c.head.ensures.held.size, recalling_without c.body.ensures.memory.recalls),
-        ),
-      ); size = rest.0; lent = rest.1.0; memory = rest.1.1 }
+returns-in-Declared c = record { answer = c.body.ensures.answer ∙ function_begun _ _ c.args.left c.args.version _ c.args.cells.now c.args.p _ _ c.head.ensures.answer c.in-Declared.is; counts = begun_counts _ _ _ refl _ c.body.ensures.counts; size = c.body.ensures.kept.size; lent = c.body.ensures.memory.size ∙ c.head.ensures.held.size; memory = recalling_without c.body.ensures.memory.recalls }

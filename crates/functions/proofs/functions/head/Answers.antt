@@ -9,8 +9,4 @@ read_signature-requires c =
     record { indexed = rest.0; model_len_bound = rest.1.0; next_in_bounds = rest.1.1 }
 
 pub returns : goal.returns
-returns c =
-    record { answer = c.read_signature.ensures.answer; declared = (
-        declares_on _ c.args.ix _ c.requires.remembering.fits _ _ _ c.read_signature.ensures.declared,
-        held_on c.args.ix c.requires.remembering.fits c.read_signature.ensures.held,
-      ); held =  }
+returns c = record { answer = c.read_signature.ensures.answer; declared = declares_on _ c.args.ix _ c.requires.remembering.fits _ _ _ c.read_signature.ensures.declared; held = held_on c.args.ix c.requires.remembering.fits c.read_signature.ensures.held }

@@ -26,9 +26,4 @@ unfolding step_says grows
 returns-in-Refused c = record { answer = input_bad _ _ _ c.test_name.ensures _ _ c.in-Refused.is; grown = tt; kept = keeps_all _ _; memory = recalled_none c.requires.recalling }
 
 pub returns-in-Counted : goal.returns-in-Counted
-returns-in-Counted c =
-    let rest =  in
-    record { answer = odd_says _ _ c.with_odd.ensures _ _ _ _ _ _ c.define.ensures.answer ∙ input_new _ _ _ c.test_name.ensures _ _ c.in-Counted.is; grown = (
-        odd_grows _ _ c.with_odd.ensures _ c.define.ensures.grown,
-        (odd_keeps _ _ c.with_odd.ensures c.define.ensures.kept, c.define.ensures.memory),
-      ); kept = rest.0; memory = rest.1 }
+returns-in-Counted c = record { answer = odd_says _ _ c.with_odd.ensures _ _ _ _ _ _ c.define.ensures.answer ∙ input_new _ _ _ c.test_name.ensures _ _ c.in-Counted.is; grown = odd_grows _ _ c.with_odd.ensures _ c.define.ensures.grown; kept = odd_keeps _ _ c.with_odd.ensures c.define.ensures.kept; memory = c.define.ensures.memory }

@@ -29,26 +29,25 @@ returns-in_default c =
 
 pub input-step-requires : goal.input-step-requires
 input-step-requires c =
-    let rest =  in
-    record { direct = adding_direct c.loop-name.invariant.0 c.next_of-sought.ensures c.in-Found.is c.requires.walked c.contents-c.ensures function_input_lem; countable = (
-        adding_countable c.loop-name.invariant.0 c.next_of-sought.ensures c.in-Found.is
-            (from_contents _ _ _ _ _ c.contents-c.ensures c.requires.countable),
-        (c.requires.model_len_bound, c.loop-name.invariant.1.recalls),
-      ); model_len_bound = rest.0; recalling = rest.1 }
+    record {
+      direct = adding_direct c.loop-name.invariant.0 c.next_of-sought.ensures c.in-Found.is c.requires.walked c.contents-c.ensures function_input_lem;
+      countable = adding_countable c.loop-name.invariant.0 c.next_of-sought.ensures c.in-Found.is
+          (from_contents _ _ _ _ _ c.contents-c.ensures c.requires.countable);
+      model_len_bound = c.requires.model_len_bound;
+      recalling = c.loop-name.invariant.1.recalls;
+    }
 
 pub returns-in_default-step : goal.returns-in_default-step
 returns-in_default-step c =
     let d = adding_stops c.loop-name.invariant.0 c.next_of-sought.ensures c.in-Found.is _ c.input-step.ensures.answer
-    c.input-step.ensures.grown c.input-step.ensures.kept c.in_default-step.is in let rest =  in
-    record { answer = d.0 ∙ along_contents _ _ _ _ _ c.contents-c.ensures; grown = (d.1.0, (d.1.1, recalled_then c.loop-name.invariant.1 c.input-step.ensures.memory)); kept = rest.0; memory = rest.1 }
+    c.input-step.ensures.grown c.input-step.ensures.kept c.in_default-step.is in record { answer = d.0 ∙ along_contents _ _ _ _ _ c.contents-c.ensures; grown = d.1.0; kept = d.1.1; memory = recalled_then c.loop-name.invariant.1 c.input-step.ensures.memory }
 
 pub loop-name-smaller : goal.loop-name-smaller
 loop-name-smaller c = adding_falls c.loop-name.invariant.0 c.next_of-sought.ensures c.in-Found.is
 
 pub loop-name-preserved : goal.loop-name-preserved
-loop-name-preserved c =
-    (
-      adding_goes c.loop-name.invariant.0 c.next_of-sought.ensures c.in-Found.is _ c.input-step.ensures.answer
-          c.input-step.ensures.grown c.input-step.ensures.kept (input_counts _) c.in-Went.is,
-      recalled_then c.loop-name.invariant.1 c.input-step.ensures.memory,
-    )
+loop-name-preserved c = (
+  adding_goes c.loop-name.invariant.0 c.next_of-sought.ensures c.in-Found.is _ c.input-step.ensures.answer
+      c.input-step.ensures.grown c.input-step.ensures.kept (input_counts _) c.in-Went.is,
+  recalled_then c.loop-name.invariant.1 c.input-step.ensures.memory,
+)

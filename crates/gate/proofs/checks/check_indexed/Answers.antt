@@ -13,8 +13,4 @@ pub judged-answer-requires : goal.judged-answer-requires
 judged-answer-requires c = record { extra_value = c.clear.ensures ∙ ap (λ (n : ℕ). replicate n 0) (sym c.extra-1.given); split_in_bounds = omega (arith, c.unread.ensures.1, c.split_of-split.ensures, c.extra-1.given) }
 
 pub returns : goal.returns
-returns c =
-    record { answer = c.judged-answer.ensures.answer ∙ indexed_enough _ _ c.extra-1.given c.if-extra-cells.false; cleared = (
-        c.clear_both.ensures.cells ∙ ap (λ (n : ℕ). replicate n 0) c.judged-answer.ensures.size,
-        c.clear_both.ensures.extra ∙ ap (λ (n : ℕ). replicate n 0) (c.extra-2-1.given ∙ c.extra-1.given),
-      ); extras =  }
+returns c = record { answer = c.judged-answer.ensures.answer ∙ indexed_enough _ _ c.extra-1.given c.if-extra-cells.false; cleared = c.clear_both.ensures.cells ∙ ap (λ (n : ℕ). replicate n 0) c.judged-answer.ensures.size; extras = c.clear_both.ensures.extra ∙ ap (λ (n : ℕ). replicate n 0) (c.extra-2-1.given ∙ c.extra-1.given) }

@@ -22,13 +22,17 @@ returns-in-Refused c = record { answer = verdict_unwalked _ _ _ c.is_too_large.e
 pub returns-in-Refused-second_walk : goal.returns-in-Refused-second_walk
 unfolding meaning
 returns-in-Refused-second_walk c =
-    let rest =  in
-    record { answer = verdict_refused _ _ _ c.is_too_large.ensures c.if-is_too_large.false c.is_sound.ensures c.if-not-is_sound.false _ c.first_walk.ensures
-          c.in-Sound.is _ _ c.second_walk.ensures.answer c.in-Refused-second_walk.is; size = c.second_walk.ensures.size }
+    record {
+      answer = verdict_refused _ _ _ c.is_too_large.ensures c.if-is_too_large.false c.is_sound.ensures c.if-not-is_sound.false _ c.first_walk.ensures
+          c.in-Sound.is _ _ c.second_walk.ensures.answer c.in-Refused-second_walk.is;
+      size = c.second_walk.ensures.size;
+    }
 
 pub returns-in-Went : goal.returns-in-Went
 unfolding meaning
 returns-in-Went c =
-    let rest =  in
-    record { answer = verdict_accepted _ _ _ c.is_too_large.ensures c.if-is_too_large.false c.is_sound.ensures c.if-not-is_sound.false _ c.first_walk.ensures
-          c.in-Sound.is _ _ c.second_walk.ensures.answer c.in-Went.is; size = c.second_walk.ensures.size }
+    record {
+      answer = verdict_accepted _ _ _ c.is_too_large.ensures c.if-is_too_large.false c.is_sound.ensures c.if-not-is_sound.false _ c.first_walk.ensures
+          c.in-Sound.is _ _ c.second_walk.ensures.answer c.in-Went.is;
+      size = c.second_walk.ensures.size;
+    }

@@ -8,25 +8,42 @@ use Rattle.headers.proofs.headers.header.Goals as goal
 
 pub returns-then-not-is_ir_version : goal.returns-then-not-is_ir_version
 returns-then-not-is_ir_version c =
-    record { answer = c.unheaded.ensures.answer
+    record {
+      answer = c.unheaded.ensures.answer
           ∙ header_version _ _ c.whole-m.ensures c.number_from.ensures c.is_ir_version.ensures c.if-not-is_ir_version.true
-          c.place_of.ensures; imported = (c.unheaded.ensures.imported _ _ _ _ _ _, held_all c.requires.indexed (omega arith)); held =  }
+          c.place_of.ensures;
+      imported = c.unheaded.ensures.imported _ _ _ _ _ _;
+      held = held_all c.requires.indexed (omega arith);
+    }
 
 pub returns-then-not-has_from : goal.returns-then-not-has_from
 returns-then-not-has_from c =
-    record { answer = c.unheaded-then-not-has_from.ensures.answer
+    record {
+      answer = c.unheaded-then-not-has_from.ensures.answer
           ∙ header_graph _ _ c.whole-m.ensures c.number_from.ensures c.is_ir_version.ensures c.if-not-is_ir_version.false
-          c.has_from.ensures c.if-not-has_from.true; imported = (c.unheaded-then-not-has_from.ensures.imported _ _ _ _ _ _, held_all c.requires.indexed (omega arith)); held =  }
+          c.has_from.ensures c.if-not-has_from.true;
+      imported = c.unheaded-then-not-has_from.ensures.imported _ _ _ _ _ _;
+      held = held_all c.requires.indexed (omega arith);
+    }
 
 pub returns-then-not-has_from-2 : goal.returns-then-not-has_from-2
 returns-then-not-has_from-2 c =
-    record { answer = c.unheaded-then-not-has_from-2.ensures.answer ∙ header_import _ _ c.whole-m.ensures c.number_from.ensures c.is_ir_version.ensures (not-false _
-          c.if-not-is_ir_version.false-raw) c.has_from.ensures c.if-not-has_from.false c.has_from-2.ensures c.if-not-has_from-2.true; imported = (c.unheaded-then-not-has_from-2.ensures.imported _ _ _ _ _ _, held_all c.requires.indexed (omega arith)); held =  }
+    record {
+      answer = c.unheaded-then-not-has_from-2.ensures.answer ∙ header_import _ _ c.whole-m.ensures c.number_from.ensures c.is_ir_version.ensures (not-false _
+          c.if-not-is_ir_version.false-raw) c.has_from.ensures c.if-not-has_from.false c.has_from-2.ensures c.if-not-has_from-2.true;
+      imported = c.unheaded-then-not-has_from-2.ensures.imported _ _ _ _ _ _;
+      held = held_all c.requires.indexed (omega arith);
+    }
 
 pub returns : goal.returns
 returns c =
-    record { answer = header_imported _ _ c.whole-m.ensures c.number_from.ensures c.is_ir_version.ensures c.if-not-is_ir_version.false
-          c.has_from.ensures c.if-not-has_from.false c.has_from-2.ensures c.if-not-has_from-2.false _ c.opset_imports.ensures.answer; imported = rw c.whole-m.ensures at (c.opset_imports.ensures.imported, c.opset_imports.ensures.held); held =  }
+    let rest = rw c.whole-m.ensures at (c.opset_imports.ensures.imported, c.opset_imports.ensures.held) in
+    record {
+      answer = header_imported _ _ c.whole-m.ensures c.number_from.ensures c.is_ir_version.ensures c.if-not-is_ir_version.false
+          c.has_from.ensures c.if-not-has_from.false c.has_from-2.ensures c.if-not-has_from-2.false _ c.opset_imports.ensures.answer;
+      imported = rest.0;
+      held = rest.1;
+    }
 
 pub number_from-requires : goal.number_from-requires
 number_from-requires c = rw c.whole-m.ensures c.requires.outlined.version

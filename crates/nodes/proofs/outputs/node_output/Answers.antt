@@ -27,15 +27,14 @@ define-requires c = record { direct = c.requires.direct; name_value = ap is_empt
 
 pub returns-in-Refused : goal.returns-in-Refused
 unfolding step_says grows
-returns-in-Refused c =
-    let rest =  in
-    record { answer = output_bad _ _ _ _ c.text-text.ensures c.if-text-eq0.false (c.tested.ensures _) c.in-Refused.is; grown = (tt, (keeps_all _ _, recalled_none c.requires.recalling)); kept = rest.0; memory = rest.1 }
+returns-in-Refused c = record { answer = output_bad _ _ _ _ c.text-text.ensures c.if-text-eq0.false (c.tested.ensures _) c.in-Refused.is; grown = tt; kept = keeps_all _ _; memory = recalled_none c.requires.recalling }
 
 pub returns-in-Counted : goal.returns-in-Counted
 returns-in-Counted c =
-    let rest =  in
-    record { answer = odd_says _ _ c.with_odd.ensures _ _ _ _ _ _ c.define.ensures.answer
-          ∙ output_new _ _ _ _ c.text-text.ensures c.if-text-eq0.false (c.tested.ensures _) c.in-Counted.is; grown = (
-        odd_grows _ _ c.with_odd.ensures _ c.define.ensures.grown,
-        (odd_keeps _ _ c.with_odd.ensures c.define.ensures.kept, c.define.ensures.memory),
-      ); kept = rest.0; memory = rest.1 }
+    record {
+      answer = odd_says _ _ c.with_odd.ensures _ _ _ _ _ _ c.define.ensures.answer
+          ∙ output_new _ _ _ _ c.text-text.ensures c.if-text-eq0.false (c.tested.ensures _) c.in-Counted.is;
+      grown = odd_grows _ _ c.with_odd.ensures _ c.define.ensures.grown;
+      kept = odd_keeps _ _ c.with_odd.ensures c.define.ensures.kept;
+      memory = c.define.ensures.memory;
+    }

@@ -29,26 +29,25 @@ returns-in_default c =
 
 pub node_output-step-requires : goal.node_output-step-requires
 node_output-step-requires c =
-    let rest =  in
-    record { direct = adding_direct c.loop-f.invariant.0 c.next_of-sought.ensures c.in-Found.is c.requires.walked c.contents-c.ensures node_output_lem; countable = (
-        adding_countable c.loop-f.invariant.0 c.next_of-sought.ensures c.in-Found.is
-            (from_contents _ _ _ _ _ c.contents-c.ensures c.requires.countable),
-        (c.requires.model_len_bound, c.loop-f.invariant.1.recalls),
-      ); model_len_bound = rest.0; recalling = rest.1 }
+    record {
+      direct = adding_direct c.loop-f.invariant.0 c.next_of-sought.ensures c.in-Found.is c.requires.walked c.contents-c.ensures node_output_lem;
+      countable = adding_countable c.loop-f.invariant.0 c.next_of-sought.ensures c.in-Found.is
+          (from_contents _ _ _ _ _ c.contents-c.ensures c.requires.countable);
+      model_len_bound = c.requires.model_len_bound;
+      recalling = c.loop-f.invariant.1.recalls;
+    }
 
 pub returns-in_default-step : goal.returns-in_default-step
 returns-in_default-step c =
     let d = adding_stops c.loop-f.invariant.0 c.next_of-sought.ensures c.in-Found.is _ c.node_output-step.ensures.answer
-    c.node_output-step.ensures.grown c.node_output-step.ensures.kept c.in_default-step.is in let rest =  in
-    record { answer = d.0 ∙ along_contents _ _ _ _ _ c.contents-c.ensures; grown = (d.1.0, (d.1.1, recalled_then c.loop-f.invariant.1 c.node_output-step.ensures.memory)); kept = rest.0; memory = rest.1 }
+    c.node_output-step.ensures.grown c.node_output-step.ensures.kept c.in_default-step.is in record { answer = d.0 ∙ along_contents _ _ _ _ _ c.contents-c.ensures; grown = d.1.0; kept = d.1.1; memory = recalled_then c.loop-f.invariant.1 c.node_output-step.ensures.memory }
 
 pub loop-f-smaller : goal.loop-f-smaller
 loop-f-smaller c = adding_falls c.loop-f.invariant.0 c.next_of-sought.ensures c.in-Found.is
 
 pub loop-f-preserved : goal.loop-f-preserved
-loop-f-preserved c =
-    (
-      adding_goes c.loop-f.invariant.0 c.next_of-sought.ensures c.in-Found.is _ c.node_output-step.ensures.answer
-          c.node_output-step.ensures.grown c.node_output-step.ensures.kept (output_counts _) c.in-Went.is,
-      recalled_then c.loop-f.invariant.1 c.node_output-step.ensures.memory,
-    )
+loop-f-preserved c = (
+  adding_goes c.loop-f.invariant.0 c.next_of-sought.ensures c.in-Found.is _ c.node_output-step.ensures.answer
+      c.node_output-step.ensures.grown c.node_output-step.ensures.kept (output_counts _) c.in-Went.is,
+  recalled_then c.loop-f.invariant.1 c.node_output-step.ensures.memory,
+)

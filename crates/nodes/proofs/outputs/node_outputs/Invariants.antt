@@ -17,8 +17,8 @@ use Rattle.nodes.proofs.outputs.node_outputs.Given as goal
 
 abbrev pub invariant-loop-f : goal.invariant-loop-f
 invariant-loop-f l = Adding l.model Node-output l.initial.c.end l.initial.c.at (field_names l.model) (λ n. node_output l.model (fills n))
-    (each (node_output l.model (fills (length l.ix))) (walk_in l.model l.ix l.initial.q) (all_from l.model Node-output l.initial.c.end l.initial.c.at)) l.ix l.initial.q l.cells l.q l.c
-    × Recalled l.model l.initial.extra l.cells l.initial.cells l.extra
+    (each (node_output l.model (fills (length l.initial.cells))) (walk_in l.model l.initial.cells l.initial.q) (all_from l.model Node-output l.initial.c.end l.initial.c.at)) l.initial.cells l.initial.q l.cells l.q l.c
+    × Recalled l.model l.ix l.cells l.initial.extra l.extra
 
 abbrev pub decreases-loop-f : goal.decreases-loop-f
 decreases-loop-f l = l.initial.c.end - l.c.at

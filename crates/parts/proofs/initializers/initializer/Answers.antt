@@ -13,26 +13,24 @@ pub with_odd-t-requires : goal.with_odd-t-requires
 with_odd-t-requires c = initializer_fits _ _ _ c.requires.countable (named_few _ _ _ _ _ c.read_name.ensures c.in-Named.is)
 
 pub declare-step-requires : goal.declare-step-requires
-declare-step-requires c =
-    let rest =  in
-    record { direct = name_first c.requires.walked tensor_name (named_first _ _ _ _ _ c.read_name.ensures c.in-Named.is); model_len_bound = (
-        c.requires.model_len_bound,
-        (c.requires.recalling, (c.requires.defaultable, (c.requires.listed, named_some _ _ _ _ _ c.read_name.ensures c.in-Named.is))),
-      ); recalling = rest.0; defaultable = rest.1.0; listed = rest.1.1.0; name_value = rest.1.1.1 }
+declare-step-requires c = record { direct = name_first c.requires.walked tensor_name (named_first _ _ _ _ _ c.read_name.ensures c.in-Named.is); model_len_bound = c.requires.model_len_bound; recalling = c.requires.recalling; defaultable = c.requires.defaultable; listed = c.requires.listed; name_value = named_some _ _ _ _ _ c.read_name.ensures c.in-Named.is }
 
 pub returns-in_default : goal.returns-in_default
 returns-in_default c =
     let e = c.with_odd-t.ensures in
-    let d = (c.declare-step.ensures.answer, (c.declare-step.ensures.grown, (c.declare-step.ensures.kept, c.declare-step.ensures.memory))) in let rest =  in
-    record { answer = initializer_stops _ _ _ _ _ _ _ _ c.read_name.ensures c.in-Named.is e _ _ d.0 c.in_default.is; grown = (odd_grows _ _ e _ d.1.0, (odd_keeps _ _ e d.1.1.0, d.1.1.1)); kept = rest.0; memory = rest.1 }
+    let d = (c.declare-step.ensures.answer, (c.declare-step.ensures.grown, (c.declare-step.ensures.kept, c.declare-step.ensures.memory))) in record { answer = initializer_stops _ _ _ _ _ _ _ _ c.read_name.ensures c.in-Named.is e _ _ d.0 c.in_default.is; grown = odd_grows _ _ e _ d.1.0; kept = odd_keeps _ _ e d.1.1.0; memory = d.1.1.1 }
 
 pub returns-then-is_element : goal.returns-then-is_element
 unfolding step_says
 returns-then-is_element c =
     let e = c.with_odd-t.ensures in
-    let d = (c.declare-step.ensures.answer, (c.declare-step.ensures.grown, (c.declare-step.ensures.kept, c.declare-step.ensures.memory))) in let rest =  in
-    record { answer = initializer_goes _ _ _ _ _ _ _ _ c.read_name.ensures c.in-Named.is e _ _ d.0 c.in-Went.is
-          c.number_of.ensures c.is_element.ensures c.if-is_element.true; grown = (subst (grows _) c.in-Went.is (odd_grows _ _ e _ d.1.0), (odd_keeps _ _ e d.1.1.0, d.1.1.1)); kept = rest.0; memory = rest.1 }
+    let d = (c.declare-step.ensures.answer, (c.declare-step.ensures.grown, (c.declare-step.ensures.kept, c.declare-step.ensures.memory))) in record {
+      answer = initializer_goes _ _ _ _ _ _ _ _ c.read_name.ensures c.in-Named.is e _ _ d.0 c.in-Went.is
+          c.number_of.ensures c.is_element.ensures c.if-is_element.true;
+      grown = subst (grows _) c.in-Went.is (odd_grows _ _ e _ d.1.0);
+      kept = odd_keeps _ _ e d.1.1.0;
+      memory = d.1.1.1;
+    }
 
 pub returns-in-Refused : goal.returns-in-Refused
 unfolding step_says grows
@@ -41,6 +39,10 @@ returns-in-Refused c = record { answer = initializer_unnamed _ _ _ _ _ _ _ _ c.r
 pub returns-else-is_element : goal.returns-else-is_element
 returns-else-is_element c =
     let e = c.with_odd-t.ensures in
-    let d = (c.declare-step.ensures.answer, (c.declare-step.ensures.grown, (c.declare-step.ensures.kept, c.declare-step.ensures.memory))) in let rest =  in
-    record { answer = c.stopped.ensures.answer _ _ ∙ initializer_mistyped _ _ _ _ _ _ _ _ c.read_name.ensures c.in-Named.is e _ _ d.0
-          c.in-Went.is c.number_of.ensures c.is_element.ensures c.if-is_element.false c.place_of.ensures; grown = (c.stopped.ensures.grown _, (odd_keeps _ _ e d.1.1.0, d.1.1.1)); kept = rest.0; memory = rest.1 }
+    let d = (c.declare-step.ensures.answer, (c.declare-step.ensures.grown, (c.declare-step.ensures.kept, c.declare-step.ensures.memory))) in record {
+      answer = c.stopped.ensures.answer _ _ ∙ initializer_mistyped _ _ _ _ _ _ _ _ c.read_name.ensures c.in-Named.is e _ _ d.0
+          c.in-Went.is c.number_of.ensures c.is_element.ensures c.if-is_element.false c.place_of.ensures;
+      grown = c.stopped.ensures.grown _;
+      kept = odd_keeps _ _ e d.1.1.0;
+      memory = d.1.1.1;
+    }

@@ -20,13 +20,12 @@ use borrow.Author.Rules.{rules}
 use Rattle.parts.proofs.initializers.initializers.Goals as goal
 
 pub loop-f-init : goal.loop-f-init
-loop-f-init c =
-    (
-      adding_start _ _ _ _ _ _ _ (along_start _ _ _ _ _),
-      lists_start _ _ _ c.requires.recalling c.requires.top_bound _ c.contents-c.ensures,
-      c.requires.defaultable,
-      omega arith,
-    )
+loop-f-init c = (
+  adding_start _ _ _ _ _ _ _ (along_start _ _ _ _ _),
+  lists_start _ _ _ c.requires.recalling c.requires.top_bound _ c.contents-c.ensures,
+  c.requires.defaultable,
+  omega arith,
+)
 
 pub shape_of-extra-in_default : goal.shape_of-extra-in_default
 shape_of-extra-in_default c = c.loop-f.invariant.1.minded.size
@@ -38,42 +37,34 @@ returns-in_default c =
 
 pub initializer-step-requires : goal.initializer-step-requires
 initializer-step-requires c =
-    let rest =  in
-    record { model_len_bound = c.requires.model_len_bound; walked = (
-        adding_walked c.loop-f.invariant.0 c.next_of-sought.ensures c.in-Found.is c.requires.walked c.contents-c.ensures graph_initializer,
-        (
-          adding_countable c.loop-f.invariant.0 c.next_of-sought.ensures c.in-Found.is
-              (from_contents _ _ _ _ _ c.contents-c.ensures c.requires.countable),
-          (c.loop-f.invariant.1.minded.recalls, (c.loop-f.invariant.2, lists_found c.loop-f.invariant.1 c.next_of-sought.ensures c.in-Found.is)),
-        ),
-      ); countable = rest.0; recalling = rest.1.0; defaultable = rest.1.1.0; listed = rest.1.1.1 }
+    record {
+      model_len_bound = c.requires.model_len_bound;
+      walked = adding_walked c.loop-f.invariant.0 c.next_of-sought.ensures c.in-Found.is c.requires.walked c.contents-c.ensures graph_initializer;
+      countable = adding_countable c.loop-f.invariant.0 c.next_of-sought.ensures c.in-Found.is
+          (from_contents _ _ _ _ _ c.contents-c.ensures c.requires.countable);
+      recalling = c.loop-f.invariant.1.minded.recalls;
+      defaultable = c.loop-f.invariant.2;
+      listed = lists_found c.loop-f.invariant.1 c.next_of-sought.ensures c.in-Found.is;
+    }
 
 pub returns-in_default-step : goal.returns-in_default-step
 returns-in_default-step c =
     let d = adding_stops c.loop-f.invariant.0 c.next_of-sought.ensures c.in-Found.is _ c.initializer-step.ensures.answer
-    c.initializer-step.ensures.grown c.initializer-step.ensures.kept c.in_default-step.is in let rest =  in
-    record { answer = d.0 ∙ along_contents _ _ _ _ _ c.contents-c.ensures; grown = (
-        d.1.0,
-        (
-          d.1.1,
-          minded_then c.loop-f.invariant.1.minded (minded_recalled c.loop-f.invariant.1.minded.held.fits c.initializer-step.ensures.memory),
-        ),
-      ); kept = rest.0; memory = rest.1 }
+    c.initializer-step.ensures.grown c.initializer-step.ensures.kept c.in_default-step.is in record { answer = d.0 ∙ along_contents _ _ _ _ _ c.contents-c.ensures; grown = d.1.0; kept = d.1.1; memory = minded_then c.loop-f.invariant.1.minded (minded_recalled c.loop-f.invariant.1.minded.held.fits c.initializer-step.ensures.memory) }
 
 pub loop-f-smaller : goal.loop-f-smaller
 loop-f-smaller c = adding_falls c.loop-f.invariant.0 c.next_of-sought.ensures c.in-Found.is
 
 pub loop-f-preserved : goal.loop-f-preserved
-loop-f-preserved c =
-    (
-      adding_goes c.loop-f.invariant.0 c.next_of-sought.ensures c.in-Found.is _ c.initializer-step.ensures.answer c.initializer-step.ensures.grown
-          c.initializer-step.ensures.kept (initializer_counts _ _ _) c.in-Went.is,
-      lists_next c.loop-f.invariant.1 c.next_of-sought.ensures c.in-Found.is
-          (minded_recalled (lists_fits c.loop-f.invariant.1) c.initializer-step.ensures.memory) c.list-l.ensures,
-      default_kept c.loop-f.invariant.2
-          c.loop-f.invariant.3 c.initializer-step.ensures.kept,
-      used_after _ _ c.loop-f.invariant.3 c.initializer-step.ensures.grown c.in-Went.is,
-    )
+loop-f-preserved c = (
+  adding_goes c.loop-f.invariant.0 c.next_of-sought.ensures c.in-Found.is _ c.initializer-step.ensures.answer c.initializer-step.ensures.grown
+      c.initializer-step.ensures.kept (initializer_counts _ _ _) c.in-Went.is,
+  lists_next c.loop-f.invariant.1 c.next_of-sought.ensures c.in-Found.is
+      (minded_recalled (lists_fits c.loop-f.invariant.1) c.initializer-step.ensures.memory) c.list-l.ensures,
+  default_kept c.loop-f.invariant.2
+      c.loop-f.invariant.3 c.initializer-step.ensures.kept,
+  used_after _ _ c.loop-f.invariant.3 c.initializer-step.ensures.grown c.in-Went.is,
+)
 
 pub list-l-requires : goal.list-l-requires
 list-l-requires c = record { remembering = c.initializer-step.ensures.memory.recalls.both; top_bound = (minded_recalled (lists_fits c.loop-f.invariant.1) c.initializer-step.ensures.memory).held.fits; model_len_bound = c.requires.model_len_bound }

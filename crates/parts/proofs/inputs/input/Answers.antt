@@ -13,15 +13,12 @@ pub with_odd-requires : goal.with_odd-requires
 with_odd-requires c = input_fits _ _ _ _ c.requires.countable (named_few _ _ _ _ _ c.read_name.ensures c.in-Named.is)
 
 pub define-step-requires : goal.define-step-requires
-define-step-requires c =
-    let rest =  in
-    record { direct = name_first c.requires.walked value_info_name (named_first _ _ _ _ _ c.read_name.ensures c.in-Named.is); name_value = (named_some _ _ _ _ _ c.read_name.ensures c.in-Named.is, (c.requires.model_len_bound, c.requires.recalling)); model_len_bound = rest.0; recalling = rest.1 }
+define-step-requires c = record { direct = name_first c.requires.walked value_info_name (named_first _ _ _ _ _ c.read_name.ensures c.in-Named.is); name_value = named_some _ _ _ _ _ c.read_name.ensures c.in-Named.is; model_len_bound = c.requires.model_len_bound; recalling = c.requires.recalling }
 
 pub returns-in_default : goal.returns-in_default
 returns-in_default c =
     let e = c.with_odd.ensures in
-    let d = (c.define-step.ensures.answer, (c.define-step.ensures.grown, (c.define-step.ensures.kept, c.define-step.ensures.memory))) in let rest =  in
-    record { answer = λ k i. input_stops _ _ k _ _ _ _ c.read_name.ensures c.in-Named.is e _ _ d.0 c.in_default.is; grown = (odd_grows _ _ e _ d.1.0, (odd_keeps _ _ e d.1.1.0, d.1.1.1)); kept = rest.0; memory = rest.1 }
+    let d = (c.define-step.ensures.answer, (c.define-step.ensures.grown, (c.define-step.ensures.kept, c.define-step.ensures.memory))) in record { answer = λ k i. input_stops _ _ k _ _ _ _ c.read_name.ensures c.in-Named.is e _ _ d.0 c.in_default.is; grown = odd_grows _ _ e _ d.1.0; kept = odd_keeps _ _ e d.1.1.0; memory = d.1.1.1 }
 
 pub counting-requires : goal.counting-requires
 counting-requires c =
@@ -35,7 +32,11 @@ returns-in-Refused c = record { answer = λ k e. input_unnamed _ _ k _ _ _ _ c.r
 pub returns-in-Went : goal.returns-in-Went
 returns-in-Went c =
     let e = c.with_odd.ensures in
-    let d = (c.define-step.ensures.answer, (c.define-step.ensures.grown, (c.define-step.ensures.kept, c.define-step.ensures.memory))) in let rest =  in
-    record { answer = λ k i. ap (step_says _ _) c.counting.ensures
+    let d = (c.define-step.ensures.answer, (c.define-step.ensures.grown, (c.define-step.ensures.kept, c.define-step.ensures.memory))) in record {
+      answer = λ k i. ap (step_says _ _) c.counting.ensures
           ∙ input_goes _ _ k _ _ _ _ c.read_name.ensures c.in-Named.is e _ _ d.0 c.in-Went.is _
-          (c.main_type.ensures k _ i); grown = (rw c.counting.ensures (input_grows _ _ (odd_grows _ _ e _ d.1.0) c.in-Went.is _), (odd_keeps _ _ e d.1.1.0, d.1.1.1)); kept = rest.0; memory = rest.1 }
+          (c.main_type.ensures k _ i);
+      grown = rw c.counting.ensures (input_grows _ _ (odd_grows _ _ e _ d.1.0) c.in-Went.is _);
+      kept = odd_keeps _ _ e d.1.1.0;
+      memory = d.1.1.1;
+    }

@@ -30,15 +30,13 @@ returns-in_default c =
 
 pub input-step-requires : goal.input-step-requires
 input-step-requires c =
-    let rest =  in
-    record { model_len_bound = c.requires.model_len_bound; walked = (
-        adding_walked c.loop-f.invariant.0 c.next_of-sought.ensures c.in-Found.is c.requires.walked c.contents-c.ensures graph_input,
-        (
-          adding_countable c.loop-f.invariant.0 c.next_of-sought.ensures c.in-Found.is
-              (from_contents _ _ _ _ _ c.contents-c.ensures c.requires.countable),
-          c.loop-f.invariant.1.recalls,
-        ),
-      ); countable = rest.0; recalling = rest.1 }
+    record {
+      model_len_bound = c.requires.model_len_bound;
+      walked = adding_walked c.loop-f.invariant.0 c.next_of-sought.ensures c.in-Found.is c.requires.walked c.contents-c.ensures graph_input;
+      countable = adding_countable c.loop-f.invariant.0 c.next_of-sought.ensures c.in-Found.is
+          (from_contents _ _ _ _ _ c.contents-c.ensures c.requires.countable);
+      recalling = c.loop-f.invariant.1.recalls;
+    }
 
 pub returns-in_default-step : goal.returns-in_default-step
 returns-in_default-step c =
@@ -54,9 +52,8 @@ pub loop-f-smaller : goal.loop-f-smaller
 loop-f-smaller c = adding_falls c.loop-f.invariant.0 c.next_of-sought.ensures c.in-Found.is
 
 pub loop-f-preserved : goal.loop-f-preserved
-loop-f-preserved c =
-    (
-      adding_goes c.loop-f.invariant.0 c.next_of-sought.ensures c.in-Found.is _ (c.input-step.ensures.answer _ refl) c.input-step.ensures.grown
-          c.input-step.ensures.kept (input_counts _ _) c.in-Went.is,
-      recalled_then c.loop-f.invariant.1 c.input-step.ensures.memory,
-    )
+loop-f-preserved c = (
+  adding_goes c.loop-f.invariant.0 c.next_of-sought.ensures c.in-Found.is _ (c.input-step.ensures.answer _ refl) c.input-step.ensures.grown
+      c.input-step.ensures.kept (input_counts _ _) c.in-Went.is,
+  recalled_then c.loop-f.invariant.1 c.input-step.ensures.memory,
+)

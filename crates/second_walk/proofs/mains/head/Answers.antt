@@ -9,8 +9,4 @@ header-requires c =
     record { outlined = rest.0; indexed = rest.1.0; model_len_bound = rest.1.1 }
 
 pub returns : goal.returns
-returns c =
-    record { answer = c.header.ensures.answer; imported = (
-        holds_on _ _ _ c.args.ix _ _ c.requires.remembering.fits _ _ c.header.ensures.imported,
-        held_on c.args.ix c.requires.remembering.fits c.header.ensures.held,
-      ); held =  }
+returns c = record { answer = c.header.ensures.answer; imported = holds_on _ _ _ c.args.ix _ _ c.requires.remembering.fits _ _ c.header.ensures.imported; held = held_on c.args.ix c.requires.remembering.fits c.header.ensures.held }

@@ -18,11 +18,7 @@ returns-in_default c =
 pub graph-requires : goal.graph-requires
 graph-requires c =
     let enters = main_enters _ c.requires.model_len_bound c.requires.model_value c.whole-m.ensures _
-    (started_first _ _ _ (rw c.whole-m.ensures c.requires.outlined.graph) _ c.first_from.ensures) c.in-Found.is in let rest =  in
-    record { enters = enters; minds = (
-        main_minds c.requires.recalling c.head-heading.ensures.held c.head-heading.ensures.imported c.in-Imported.is _ c.whole-m.ensures,
-        (main_countable _ _ enters, refl),
-      ); countable = rest.0; nodes_value = rest.1 }
+    (started_first _ _ _ (rw c.whole-m.ensures c.requires.outlined.graph) _ c.first_from.ensures) c.in-Found.is in record { enters = enters; minds = main_minds c.requires.recalling c.head-heading.ensures.held c.head-heading.ensures.imported c.in-Imported.is _ c.whole-m.ensures; countable = main_countable _ _ enters; nodes_value = refl }
 
 pub returns-in-Missing : goal.returns-in-Missing
 returns-in-Missing c =
@@ -33,15 +29,14 @@ returns-in-Missing c =
 pub returns-in-Found : goal.returns-in-Found
 returns-in-Found c =
     let enters = main_enters _ c.requires.model_len_bound c.requires.model_value c.whole-m.ensures _
-    (started_first _ _ _ (rw c.whole-m.ensures c.requires.outlined.graph) _ c.first_from.ensures) c.in-Found.is in let rest =  in
-    record { answer = c.graph.ensures.answer ∙ main_found _ _ _ _ c.head-heading.ensures.answer (imported_heading c.in-Imported.is) c.whole-m.ensures _
-          (started_first _ _ _ (rw c.whole-m.ensures c.requires.outlined.graph) _ c.first_from.ensures) c.requires.version_value c.in-Found.is _; few = (
-        main_few _ _ c.args.version _ _ c.args.cells.now _ _ enters c.graph.ensures.answer c.graph.ensures.counts,
-        (
-          c.graph.ensures.kept.size,
-          (c.graph.ensures.memory.size ∙ c.head-heading.ensures.held.size, recalling_without c.graph.ensures.memory.recalls),
-        ),
-      ); size = rest.0; lent = rest.1.0; memory = rest.1.1 }
+    (started_first _ _ _ (rw c.whole-m.ensures c.requires.outlined.graph) _ c.first_from.ensures) c.in-Found.is in record {
+      answer = c.graph.ensures.answer ∙ main_found _ _ _ _ c.head-heading.ensures.answer (imported_heading c.in-Imported.is) c.whole-m.ensures _
+          (started_first _ _ _ (rw c.whole-m.ensures c.requires.outlined.graph) _ c.first_from.ensures) c.requires.version_value c.in-Found.is _;
+      few = main_few _ _ c.args.version _ _ c.args.cells.now _ _ enters c.graph.ensures.answer c.graph.ensures.counts;
+      size = c.graph.ensures.kept.size;
+      lent = c.graph.ensures.memory.size ∙ c.head-heading.ensures.held.size;
+      memory = recalling_without c.graph.ensures.memory.recalls;
+    }
 
 pub shape_of-extra-in-Found : goal.shape_of-extra-in-Found
 shape_of-extra-in-Found c = c.graph.ensures.memory.size ∙ c.head-heading.ensures.held.size

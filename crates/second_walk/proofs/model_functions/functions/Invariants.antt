@@ -11,7 +11,7 @@ use Rattle.second_walk.proofs.LoopLaws.{Judging, judging_start, judging_done, ju
 use Rattle.second_walk.proofs.model_functions.functions.Given as goal
 
 abbrev pub invariant-loop-f : goal.invariant-loop-f
-invariant-loop-f l = Judging l.model l.list l.initial.cells l.version l.at (functions_again l.model l.list (fills (length l.ix)) l.initial.cells (walk_in l.model l.ix l.initial.q)) l.ix l.last l.cells l.extra l.q l.known l.c
+invariant-loop-f l = Judging l.model l.list l.version l.ix l.last (functions_again l.model l.list (fills (length l.initial.cells)) l.version (walk_in l.model l.initial.cells l.initial.q)) l.initial.cells l.initial.extra l.cells l.extra l.q l.known l.c
 
 abbrev pub decreases-loop-f : goal.decreases-loop-f
 decreases-loop-f l = length l.model - l.c.at

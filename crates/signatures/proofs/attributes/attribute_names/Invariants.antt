@@ -19,9 +19,9 @@ use Rattle.signatures.proofs.AroundLaws.{before_first, all_first}
 use Rattle.signatures.proofs.attributes.attribute_names.Given as goal
 
 abbrev pub invariant-loop-a : goal.invariant-loop-a
-invariant-loop-a l = Tallying l.model Function-attribute l.initial.c.end l.initial.c.at Any (field_names l.model) (attribute_again l.model l.initial.lists) l.odd l.c
-    × Behind l.model l.f Function-attribute [] (text l.model) l.initial.lists l.lists l.l l.c
-    × Held l.model l.f 0 l.seed l.lists
+invariant-loop-a l = Tallying l.model Function-attribute l.initial.c.end l.initial.c.at Any (field_names l.model) (attribute_again l.model l.f) l.odd l.c
+    × Behind l.model l.seed Function-attribute [] (text l.model) l.f l.lists l.l l.c
+    × Held l.model l.seed 0 l.initial.lists l.lists
 
 abbrev pub decreases-loop-a : goal.decreases-loop-a
 decreases-loop-a l = l.initial.c.end - l.c.at

@@ -8,7 +8,7 @@ use borrow.Author.Rules.{rules}
 use Rattle.signatures.proofs.signatures.all_attributes.Goals as goal
 
 pub returns-in_default : goal.returns-in_default
-returns-in_default c = record { answer = attributes_refused _ _ c.attribute_names-listed.ensures.answer c.in_default.is; listed = (refused_none c.in_default.is _ _ _ _ _, c.attribute_names-listed.ensures.held); held =  }
+returns-in_default c = record { answer = attributes_refused _ _ c.attribute_names-listed.ensures.answer c.in_default.is; listed = refused_none c.in_default.is _ _ _ _ _; held = c.attribute_names-listed.ensures.held }
 
 pub defaults-requires : goal.defaults-requires
 defaults-requires c = record { listed_2 = told_listed _ _ _ _ _ c.attribute_names-listed.ensures.listed c.in-Listed.is; model_len_bound = c.requires.model_len_bound; next_in_bounds = c.requires.next_in_bounds }
@@ -22,9 +22,10 @@ counting-requires c =
 
 pub returns : goal.returns
 returns c =
-    let few = told_few _ _ _ _ _ c.attribute_names-listed.ensures.listed c.in-Listed.is in record { answer = λ w. counting_as _ _ c.counting.ensures w
-          ∙ attributes_listed _ _ c.attribute_names-listed.ensures.answer c.in-Listed.is _ c.defaults.ensures.answer w; listed = (
-        rw (names_both c.args.model.now c.args.f)
-            (counting_lists _ _ c.counting.ensures few _ _ _ _ _ c.defaults.ensures.listed),
-        held_then c.attribute_names-listed.ensures.held c.defaults.ensures.held,
-      ); held =  }
+    let few = told_few _ _ _ _ _ c.attribute_names-listed.ensures.listed c.in-Listed.is in record {
+      answer = λ w. counting_as _ _ c.counting.ensures w
+          ∙ attributes_listed _ _ c.attribute_names-listed.ensures.answer c.in-Listed.is _ c.defaults.ensures.answer w;
+      listed = rw (names_both c.args.model.now c.args.f)
+          (counting_lists _ _ c.counting.ensures few _ _ _ _ _ c.defaults.ensures.listed);
+      held = held_then c.attribute_names-listed.ensures.held c.defaults.ensures.held;
+    }

@@ -7,7 +7,7 @@ use borrow.Author.Rules.{rules}
 use Rattle.signatures.proofs.signatures.imports.Goals as goal
 
 pub returns-then-not-has : goal.returns-then-not-has
-returns-then-not-has c = record { answer = c.unheaded.ensures.answer ∙ imports_none _ _ _ c.has.ensures c.if-not-has.true; imported = (c.unheaded.ensures.imported _ _ _ _ _ _, held_all c.requires.indexed c.requires.top_bound); held =  }
+returns-then-not-has c = record { answer = c.unheaded.ensures.answer ∙ imports_none _ _ _ c.has.ensures c.if-not-has.true; imported = c.unheaded.ensures.imported _ _ _ _ _ _; held = held_all c.requires.indexed c.requires.top_bound }
 
 pub opset_imports-requires : goal.opset_imports-requires
 opset_imports-requires c = record { imports_from = imports_from _ _ c.args.f; indexed = c.requires.indexed; top_bound = c.requires.top_bound; model_len_bound = c.requires.model_len_bound }

@@ -17,17 +17,18 @@ returns-in-Refused c = record { answer = signature_refused _ _ _ _ c.named.ensur
 
 pub returns-in-Refused-imports : goal.returns-in-Refused-imports
 unfolding signature_says declares
-returns-in-Refused-imports c = record { answer = signature_unimported _ _ _ _ c.named.ensures.answer c.in-Listed.is c.imports.ensures.answer c.in-Refused-imports.is; declared = (tt, held_then c.named.ensures.held (held_fewer (omega arith) c.imports.ensures.held)); held =  }
+returns-in-Refused-imports c = record { answer = signature_unimported _ _ _ _ c.named.ensures.answer c.in-Listed.is c.imports.ensures.answer c.in-Refused-imports.is; declared = tt; held = held_then c.named.ensures.held (held_fewer (omega arith) c.imports.ensures.held) }
 
 pub returns-in-Imported : goal.returns-in-Imported
 unfolding signature_says declares
 returns-in-Imported c =
-    let imported = held_imports _ _ _ _ _ _ c.imports.ensures.imported c.in-Imported.is in record { answer = signature_imported _ _ _ _ c.named.ensures.answer c.in-Listed.is c.imports.ensures.answer c.in-Imported.is; declared = (
-        (
-          listed_held c.imports.ensures.held (told_listed _ _ _ _ _ c.named.ensures.listed c.in-Listed.is),
-          imported.0,
-          imported.1,
-          told_few _ _ _ _ _ c.named.ensures.listed c.in-Listed.is,
-        ),
-        held_then c.named.ensures.held (held_fewer (omega arith) c.imports.ensures.held),
-      ); held =  }
+    let imported = held_imports _ _ _ _ _ _ c.imports.ensures.imported c.in-Imported.is in record {
+      answer = signature_imported _ _ _ _ c.named.ensures.answer c.in-Listed.is c.imports.ensures.answer c.in-Imported.is;
+      declared = (
+        listed_held c.imports.ensures.held (told_listed _ _ _ _ _ c.named.ensures.listed c.in-Listed.is),
+        imported.0,
+        imported.1,
+        told_few _ _ _ _ _ c.named.ensures.listed c.in-Listed.is,
+      );
+      held = held_then c.named.ensures.held (held_fewer (omega arith) c.imports.ensures.held);
+    }
