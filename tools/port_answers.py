@@ -388,7 +388,7 @@ def turn(path, entry, crate, function):
             binders = [b for b in it.group(2).split()]
             root = next((b for b in binders if b != "κs"), "c")
             made = body_of(body[it.end() :], names, place, root, left)
-            if made.strip() == "search rules":
+            if made.strip() == "search rules" and not unfolding:
                 continue
             asked = asks(names, plain(m.group(1)))
             if asked:
