@@ -56,7 +56,7 @@ def continues(now, line):
 
 
 def same_step(head, step):
-    head, step = plain(head).lower(), plain(step).lower()
+    head, step = plain(head.replace("is_IsBody", "is_body")).lower(), plain(step).lower()
     return bool(step) and head in (step, step + "-lem")
 
 
@@ -72,6 +72,8 @@ class Names:
 
     def goal(self, old):
         old = plain(old)
+        for was, now in (("holds", "init"), ("less", "smaller"), ("again", "preserved")):
+            old = re.sub(rf"^loop-{was}(?=$|-)", "loop-" + now, old)
         for it in (old, re.sub(r"^(overflow|nonzero)-", "", old), re.sub("^slice-bounds-", "part-", old)):
             if it in self.goals:
                 return self.goals[it]
@@ -85,6 +87,22 @@ class Names:
                     return start
                 start = self.places[start][1]
         return None
+
+    def arm_of(self, place, step, rest):
+        """The arm that a step before the goal has gone into, and the arm's field for it."""
+        at = self.at
+        while at is not None:
+            arm = self.entry["arms"][self.places[at][0]]
+            best = None
+            for field, by, path in arm[2] if arm else []:
+                if by == step and rest[: len(path)] == path and (best is None or len(path) > len(best[1])):
+                    best = (field, path)
+            if best and not (best[0].endswith("-own") and step.startswith("match")):
+                return arm, best
+            if at == place:
+                return None, None
+            at = self.places[at][1]
+        return None, None
 
     def resolve(self, place, parts, root="c"):
         """(place, None) where the path only goes back, else (None, text)."""
@@ -104,12 +122,8 @@ class Names:
                 for var, by in self.entry["typed"][i]:
                     if by == step[0]:
                         return None, ".".join([root, "type_inv", var] + rest[1:])
-            arm = self.entry["arms"][i]
+            arm, best = self.arm_of(place, step[0], rest)
             if arm:
-                best = None
-                for field, by, path in arm[2]:
-                    if by == step[0] and rest[: len(path)] == path and (best is None or len(path) > len(best[1])):
-                        best = (field, path)
                 if best and best[0] == "ensures":
                     above = self.places[self.places[place][1]]
                     while above[3] is None and above[1]:
@@ -236,6 +250,7 @@ def body_of(text, names, place, root="c", left=None):
         if alias != root:
             out = re.sub(r"(?<![\w.'·-])" + re.escape(alias) + r"(?![\w'·.-])", root, out)
     out = re.sub(r"\(not-true _ (c\.[\w'·.-]+)\.true-raw\)", r"\1.true", out)
+    out = re.sub(r", c\.(?:[\w'·.-]+-own\.[\w.-]+|in_default-1\.rest)(?=[,)])", "", out).replace("omega (arith)", "omega arith").replace("(omega arith)", "(omega arith)")
     out = re.sub(r"\(not-false _ (c\.[\w'·.-]+)\.false-raw\)", r"\1.false", out)
     return out
 
@@ -298,6 +313,35 @@ def in_record(text, names):
     path = lambda i: "rest" + ".1" * i + (".0" if i < left - 1 else "")
     terms = found[:-1] + [path(i) for i in range(left)]
     return lets + f"let rest = {found[-1].strip()} in\n    record {{ " + "; ".join(f"{n} = {t}" for n, t in zip(names, terms)) + " }"
+
+
+def arguments(text):
+    """The arguments at the outermost level of a text: words and brackets."""
+    found, depth, start = [], 0, None
+    for i, it in enumerate(text):
+        if depth == 0 and not it.isspace() and start is None:
+            start = i
+        depth += it in "([{"
+        depth -= it in ")]}"
+        if depth == 0 and start is not None and (i + 1 == len(text) or text[i + 1].isspace() or text[i + 1] in ")("):
+            found.append(text[start : i + 1])
+            start = None
+    return found
+
+
+def inline_answers(body, entry):
+    """Answers that stand among the arguments of `tie.spec`, each with the goal's names."""
+    it = re.search(r"\(tie\.spec\b(.*)\)", body, re.S)
+    if not it:
+        return []
+    found = arguments(it.group(1))
+    found = found[2 * len(entry["loops"]) :]
+    real = [(i, a) for i, a in enumerate(found) if re.match(r"\(λ c(?: κs)?\. ", a) and not re.match(r"\(λ c(?: κs)?\. search rules\)", a)]
+    if not real:
+        return []
+    if len(found) != len(entry["needs"]):
+        return None
+    return [(entry["needs"][i], re.sub(r"^\(λ c(?: κs)?\. (.*)\)$", r"\1", a, flags=re.S)) for i, a in real]
 
 
 def loop_binders(entry, old):
@@ -397,6 +441,15 @@ def turn(path, entry, crate, function):
             answers.append("\n".join(comments + [f"pub {new} : goal.{new}"] + unfolding + [f"{new} {root} ={nl}{made}"]))
             continue
         if re.search(r"-spec$|_spec$", name or ""):
+            given = inline_answers(body, entry)
+            if given is None:
+                left.append("inline answers: another number")
+                continue
+            for (old, new), text_of in given:
+                made = body_of(text_of, names, names.goal(old)[1], "c", left)
+                asked = asks(names, plain(old))
+                made = in_record(made, asked) if asked else made
+                answers.append("\n".join([f"pub {new} : goal.{new}"] + unfolding + [f"{new} c = {made}"]))
             continue
         answers.append("\n".join(comments + lines))
         if "tie." in whole or "Lts" in whole:
@@ -417,6 +470,132 @@ def turn(path, entry, crate, function):
         print(function, *left, sep="\n   ")
 
 
+# what falls from call to call: the length of what the function is called at
+MEASURES = {"walk": "l.end - l.start", "attribute": "l.f.next - l.f.start", "graph": "l.f.next - l.f.start", "node": "l.f.next - l.f.start"}
+
+
+def merged(uses):
+    """One line for each module that names are taken from."""
+    table, out = {}, []
+    for it in uses:
+        m = re.match(r"use (\S+)\.\{(.*)\}$", it)
+        if not m:
+            out.append(it)
+            continue
+        if m.group(1) not in table:
+            table[m.group(1)] = []
+            out.append(m.group(1))
+        table[m.group(1)] += [n for n in re.split(r",\s*", m.group(2)) if n not in table[m.group(1)]]
+    return [f"use {it}.{{{', '.join(table[it])}}}" if it in table else it for it in out]
+
+
+def turn_cycle(path, found, crate, function):
+    """A cycle's proof: its goals are those of each of its functions, and helpers over what is known at a place are written out."""
+    folder = os.path.dirname(path)
+    texts = [read(it) for it in sorted(glob.glob(os.path.join(folder, "Proof", "*.antt")))] + [read(path)]
+    members = sorted(key.rsplit(".Lts-", 1)[1] for key in found if key.startswith(f"Rattle-{crate}-proofs.{function}.Lts-"))
+    several = len(members) > 1
+    uses, invariants, answers, left, helpers = [], [], [], [], {}
+    module = ".".join(function.split(".")[:-1])
+    for lines in [it for text in texts for it in items(text)]:
+        comments = [it for it in lines if it.startswith("--")]
+        lines = [it for it in lines if not it.startswith("--")]
+        if not lines or re.match(r"mod \w+$|use \w+\.\*$", lines[0]):
+            continue
+        head = lines[0]
+        if head.startswith("use "):
+            one = " ".join(it.strip() for it in lines)
+            if not re.search(r"\.(Statement|Tie|Reads|Kinds|Lts[\w-]*)\b|borrow\.Author\.(Rules|Needs)\.|borrow\.Fn\.|\.\+\w+\.\{|\.Proof\.", head) and one not in uses:
+                uses.append(one)
+            continue
+        name = name_of(head)
+        whole = "\n".join(lines)
+        typed, defined = [], []
+        for i, it in enumerate(lines):
+            if i and (it.split(" ")[0] == name or it.startswith("unfolding")):
+                defined = lines[i:]
+                break
+            typed.append(it)
+        if " : " not in " ".join(typed):
+            continue
+        type_text = re.sub(r"\s+", " ", " ".join(typed)).split(" : ", 1)[1]
+        unfolding = []
+        if defined and defined[0].startswith("unfolding"):
+            k = 1
+            while k < len(defined) and defined[k].startswith(" "):
+                k += 1
+            unfolding, defined = defined[:k], defined[k:]
+        body = "\n".join(defined)
+        it = re.match(r"(\S+)\s*((?:[^\s=]+\s+)*)=\s*", body)
+        binders, rest = it.group(2).split(), body[it.end() :]
+        m = re.match(r"([\w-]+)-lts\.(invariant|decreases)-?(\S*)$", type_text.strip())
+        if m:
+            entry = found[f"Rattle-{crate}-proofs.{function}.Lts-{m.group(1).replace('-', '_')}"]
+            new, those = loop_binders(entry, m.group(3))
+            made = substitute(rest, {b: t for b, t in zip(binders, those) if b != "_"})
+            new = (m.group(1) + "-" if several else "") + new
+            invariants.append("\n".join([f"abbrev pub {m.group(2)}-{new} : goal.{m.group(2)}-{new}"] + unfolding + [f"{m.group(2)}-{new} l = {made}"]))
+            continue
+        m = re.match(r"\(t : ℕ\) → ([\w-]+)-lts\.Need-(\S+) ", type_text)
+        if m:
+            member = m.group(1).replace("-", "_")
+            names = Names(found[f"Rattle-{crate}-proofs.{function}.Lts-{member}"])
+            names.function = f"{crate}::{module.replace('.', '::')}::{member}"
+            goal = names.goal(m.group(2))
+            if goal is None:
+                left.append(f"no goal {m.group(2)}: {whole}")
+                continue
+            new, place = goal
+            for _ in range(4):
+                rest = re.sub(r"\((\S+) t (c\d*(?:\.before)*)\)", lambda it: inlined(helpers, it, names, place, left) if it.group(1) in helpers else it.group(), rest)
+                rest = re.sub(r"(?<=\()(\S+) t (c\d*(?:\.before)*)(?=\.)", lambda it: inlined(helpers, it, names, place, left) if it.group(1) in helpers else it.group(), rest)
+            made = body_of(rest, names, place, "c", left).replace("written.", "c.")
+            if made.strip() == "search rules" and not unfolding:
+                continue
+            asked = asks(names, plain(m.group(2)))
+            calls_cycle = re.match(r"([\w-]+?)-requires(-\d+)?$", m.group(2)) and any(
+                callee and plain(step[0]) == plain(re.sub(r"-requires(-(\d+))?$", r"\2", m.group(2))) and callee.split("::")[-1] in members
+                for _, _, step, callee, _ in names.places.values()
+            )
+            if asked and calls_cycle:
+                lets = ""
+                while not parts_of(made):
+                    it = re.match(r"\s*let [\w'·-]+ (?:: .*?)?= .*? in\s+(?=\(|let |[a-z])", made, re.S)
+                    if not it:
+                        break
+                    lets, made = lets + it.group(), made[it.end() :]
+                parts = parts_of(made)
+                made = lets + (f"({parts[0]}, {in_record(', '.join(parts[1:]), asked)})" if parts else made + " -- LEFT")
+            elif asked:
+                made = in_record(made, asked)
+            new = (m.group(1) + "-" if several else "") + new
+            nl = "\n    " if "\n" in made else " "
+            answers.append("\n".join(comments + [f"pub {new} : goal.{new}"] + unfolding + [f"{new} t c ={nl}{made}"]))
+            continue
+        if re.search(r"-spec$|_spec$|-claims$|[-_](at|below)$|^μ-", name or ""):
+            if name.startswith("μ-"):
+                it = name[2:]
+                invariants.insert(0, f"abbrev pub decreases-{it} : goal.decreases-{it}\ndecreases-{it} l = {MEASURES[it]}")
+            continue
+        if "-lts." in type_text:
+            helpers[name] = rest
+            continue
+        answers.append("\n".join(comments + lines))
+    given = f"Rattle.{crate}.proofs.{function}"
+    uses = merged(uses)
+    write(os.path.join(folder, "Invariants.antt"), "\n".join(uses + [f"use {given}.Given as goal"]) + "\n\n" + "\n\n".join(invariants) + "\n")
+    write(os.path.join(folder, "Answers.antt"), "\n".join(uses + [f"use {given}.Goals as goal"]) + "\n\n" + "\n\n".join(answers) + "\n" + "".join("-- LEFT " + it.replace("\n", "\n-- ") + "\n" for it in left))
+    for it in [path] + glob.glob(os.path.join(folder, "Proof", "*.antt")):
+        os.remove(it)
+    if left:
+        print(function, *left, sep="\n   ")
+
+
+def inlined(helpers, it, names, place, left):
+    made = body_of(helpers[it.group(1)], names, place, "c", left)
+    return "(" + re.sub(r"(?<![\w.'·-])c\.", "written.", made) + ")"
+
+
 def main():
     found = json.load(open(sys.argv[1]))
     where = sys.argv[2]
@@ -425,6 +604,9 @@ def main():
     for path in sorted(glob.glob(os.path.join(where, "proofs", "**", "Proof.antt"), recursive=True)):
         function = os.path.relpath(os.path.dirname(path), os.path.join(where, "proofs")).replace("/", ".")
         if sys.argv[3:] and function not in sys.argv[3:]:
+            continue
+        if function.rsplit(".", 1)[-1].startswith("+") and "/Proof/" not in path:
+            turn_cycle(path, found, crate, function)
             continue
         entry = found.get(f"Rattle-{crate}-proofs.{function}.Lts")
         if entry is None:

@@ -23,34 +23,34 @@ returns-in-244 c = lead_row _ 8 (0xF4, 0xF4, ahead 3 0x80 0x8F) (omega (arith, c
 
 pub returns-in-0-to-127 : goal.returns-in-0-to-127
 unfolding leads lead_says
-returns-in-0-to-127 c = lead_row _ 0 (0x00, 0x7F, ahead 0 0x80 0xBF) (omega (arith, c.in-0-to-127.if-b-lt128-own.true))
+returns-in-0-to-127 c = lead_row _ 0 (0x00, 0x7F, ahead 0 0x80 0xBF) (omega arith)
 
 pub returns-in-194-to-223 : goal.returns-in-194-to-223
 unfolding leads lead_says
-returns-in-194-to-223 c = lead_row _ 1 (0xC2, 0xDF, ahead 1 0x80 0xBF) (omega (arith, c.in-194-to-223.if-b-lt224-own.true, c.if-b-lt194.false))
+returns-in-194-to-223 c = lead_row _ 1 (0xC2, 0xDF, ahead 1 0x80 0xBF) (omega arith)
 
 pub returns-in-225-to-236 : goal.returns-in-225-to-236
 unfolding leads lead_says
 returns-in-225-to-236 c =
     lead_row _ 3 (0xE1, 0xEC, ahead 2 0x80 0xBF)
-    (omega (arith, c.in-225-to-236.if-b-lt237-own.true, c.if-b-lt224.false, c.in_default-1.rest))
+    (omega arith)
 
 pub returns-in-238-to-239 : goal.returns-in-238-to-239
 unfolding leads lead_says
 returns-in-238-to-239 c =
     lead_row _ 5 (0xEE, 0xEF, ahead 2 0x80 0xBF)
-    (omega (arith, c.in-238-to-239.if-b-lt240-own.true, c.if-b-lt237.false, c.in_default-1.rest))
+    (omega arith)
 
 pub returns-in-241-to-243 : goal.returns-in-241-to-243
 unfolding leads lead_says
 returns-in-241-to-243 c =
     lead_row _ 7 (0xF1, 0xF3, ahead 3 0x80 0xBF)
-    (omega (arith, c.in-241-to-243.if-b-lt244-own.true, c.if-b-lt240.false, c.in_default-1.rest))
+    (omega arith)
 
 pub returns-in_default : goal.returns-in_default
 unfolding leads lead_says
-returns-in_default c = no_row _ 1 (omega (arith, c.in_default.if-b-lt194-own.true, c.if-b-lt128.false))
+returns-in_default c = no_row _ 1 (omega arith)
 
 pub returns-in_default-2 : goal.returns-in_default-2
 unfolding leads lead_says
-returns-in_default-2 c = no_row _ 9 (omega (arith, c.in_default.if-b-lt244-own.false, c.in_default-1.rest))
+returns-in_default-2 c = no_row _ 9 (omega arith)
