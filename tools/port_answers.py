@@ -61,6 +61,8 @@ def same_step(head, step):
 
 
 class Names:
+    is_cycle = False
+
     def __init__(self, entry):
         self.entry = entry
         self.places = {}
@@ -97,7 +99,7 @@ class Names:
             for field, by, path in arm[2] if arm else []:
                 if by == step and rest[: len(path)] == path and (best is None or len(path) > len(best[1])):
                     best = (field, path)
-            if best and not (best[0].endswith("-own") and step.startswith("match")):
+            if best and not (best[0].endswith("-own") and step.startswith("match") and rest[:1] != ["rest"]):
                 return arm, best
             if at == place:
                 return None, None
@@ -141,6 +143,13 @@ class Names:
             return None, ".".join([root, step[1]] + rest)
         head = parts[0] = head.replace("-", "_") if head in ("well-formed", "type-inv") else head
         if head in ("args", "requires", "ranges", "lifetimes", "well_formed", "utf8"):
+            if self.is_cycle and head == "requires":
+                # the measure's value, and then what is asked
+                if parts[1:] == ["0"]:
+                    return None, root + ".decreases"
+                if parts[1:2] != ["1"]:
+                    raise KeyError(".".join(parts))
+                parts.pop(1)
             named = head == "requires" and clauses(self.function, "requires")
             if named:
                 return None, by_name((root + ".requires", parts[1:]), named)
@@ -540,6 +549,7 @@ def turn_cycle(path, found, crate, function):
         if m:
             member = m.group(1).replace("-", "_")
             names = Names(found[f"Rattle-{crate}-proofs.{function}.Lts-{member}"])
+            names.is_cycle = True
             names.function = f"{crate}::{module.replace('.', '::')}::{member}"
             goal = names.goal(m.group(2))
             if goal is None:

@@ -28,31 +28,31 @@ use Rattle.cycle.proofs.NodeLaws.{node_inputs_room, node_fits, node_stops, node_
 use Rattle.cycle.proofs.graphs.+attribute_graph_node.Goals as goal
 
 pub attribute-attribute_head-requires : goal.attribute-attribute_head-requires
-attribute-attribute_head-requires t c = record { split_in_bounds = c.requires.listed.recalls.both.fits; listed = c.requires.listed.resolved; listed_2 = c.requires.countable.0 }
+attribute-attribute_head-requires t c = record { split_in_bounds = c.requires.minds.recalls.both.fits; listed = c.requires.minds.resolved; listed_2 = c.requires.listed }
 
 pub attribute-counting-headed-requires : goal.attribute-counting-headed-requires
-attribute-counting-headed-requires t c = attribute_fits _ _ _ _ _ _ _ c.attribute_head.ensures c.requires.countable.1
+attribute-counting-headed-requires t c = attribute_fits _ _ _ _ _ _ _ c.attribute_head.ensures c.requires.countable
 
 pub attribute-returns-in_default : goal.attribute-returns-in_default
 attribute-returns-in_default t c =
     let rest = promised_and (attribute_stops _ _ _ _ _ _ _ _ c.attribute_head.ensures c.counting-headed.ensures c.in_default.is)
-    (minded_none c.requires.listed.recalls c.requires.listed.fits) in
+    (minded_none c.requires.minds.recalls c.requires.minds.fits) in
     record { answer = rest.0; grown = rest.1.0; counts = rest.1.1.0; kept = rest.1.1.1.0; memory = rest.1.1.1.1 }
 
 pub attribute-returns-then-not-is_body : goal.attribute-returns-then-not-is_body
 attribute-returns-then-not-is_body t c =
     let rest = promised_and (attribute_plain _ _ _ _ _ _ _ _ c.attribute_head.ensures c.counting-headed.ensures c.in-Went.is c.number_of.ensures
-    c.carrier_of-number.ensures c.is_body.ensures c.requires.minds c.if-not-is_body.true)
-    (minded_none c.requires.listed.recalls c.requires.listed.fits) in
+    c.carrier_of-number.ensures c.is_body.ensures c.requires.enters c.if-not-is_body.true)
+    (minded_none c.requires.minds.recalls c.requires.minds.fits) in
     record { answer = rest.0; grown = rest.1.0; counts = rest.1.1.0; kept = rest.1.1.1.0; memory = rest.1.1.1.1 }
 
 pub attribute-loop-g-init : goal.attribute-loop-g-init
 unfolding contents_of
 attribute-loop-g-init t c =
     rw c.contents-c.ensures (
-      going_start _ _ _ _ _ _ _ c.requires.minds.ends,
-      c.requires.listed,
-      minded_none c.requires.listed.recalls c.requires.listed.fits,
+      going_start _ _ _ _ _ _ _ c.requires.enters.ends,
+      c.requires.minds,
+      minded_none c.requires.minds.recalls c.requires.minds.fits,
     )
 
 pub attribute-shape_of-cells-in_default-sought : goal.attribute-shape_of-cells-in_default-sought
@@ -65,7 +65,7 @@ pub attribute-returns-in_default-sought : goal.attribute-returns-in_default-soug
 attribute-returns-in_default-sought t c =
     let rest = promised_and (bodies_done _ _ _ _ _ _ _ _ c.attribute_head.ensures c.counting-headed.ensures c.in-Went.is c.number_of.ensures
     c.carrier_of-number.ensures c.is_body.ensures c.if-not-is_body.false c.contents-c.ensures c.loop-g.invariant.0
-    c.next_of-sought.ensures c.requires.minds c.in_default-sought.is) c.loop-g.invariant.2 in
+    c.next_of-sought.ensures c.requires.enters c.in_default-sought.is) c.loop-g.invariant.2 in
     record { answer = rest.0; grown = rest.1.0; counts = rest.1.1.0; kept = rest.1.1.1.0; memory = rest.1.1.1.1 }
 
 pub attribute-graph-step-requires : goal.attribute-graph-step-requires
@@ -75,12 +75,12 @@ attribute-graph-step-requires t c =
     let first = attribute_first _ _ _ _ _ _ c.attribute_head.ensures c.counting-headed.ensures c.in-Went.is in
     let room = bodies_countable _ _ c.args.s _ c.args.cells.now _ _ _ c.attribute_head.ensures c.counting-headed.ensures
     c.in-Went.is c.number_of.ensures c.carrier_of-number.ensures c.is_body.ensures c.if-not-is_body.false
-    c.requires.countable.1 in (
-      going_shorter g c.next_of-sought.ensures c.in-Found.is c.requires.enters,
+    c.requires.countable in (
+      going_shorter g c.next_of-sought.ensures c.in-Found.is c.decreases,
       record {
-        enters = going_enters g c.next_of-sought.ensures c.in-Found.is c.requires.minds.short c.requires.minds.walked
+        enters = going_enters g c.next_of-sought.ensures c.in-Found.is c.requires.enters.short c.requires.enters.walked
             (own_contents c.args.f) (attribute_body _ (true_T _ (sym c.is_body.ensures ∙ not-false _ c.if-not-is_body.false-raw)))
-            (enters_low (enters_first {first = c.in-Went.first} first.0 first.1 c.requires.minds));
+            (enters_low (enters_first {first = c.in-Went.first} first.0 first.1 c.requires.enters));
         minds = inner_minds c.args.s c.nested.ensures _ c.loop-g.invariant.1;
         countable = inner_countable _ _ c.args.s c.nested.ensures _ _ (going_countable g c.next_of-sought.ensures c.in-Found.is room);
         nodes_value = inner_nodes c.args.s c.nested.ensures;
@@ -115,12 +115,12 @@ attribute-loop-g-preserved t c = (
 )
 
 pub graph-returns-then-left-eq0 : goal.graph-returns-then-left-eq0
-graph-returns-then-left-eq0 t c = record { answer = c.stopped.ensures.answer _ _ ∙ (let a = c.args in graph_deep _ _ a.s a.cells.now a.p a.f c.if-left-eq0.true); grown = c.stopped.ensures.grown _; counts = stopped_counts _ _ _ c.stopped.ensures.answer; kept = keeps_all _ _; memory = minded_none c.requires.countable.recalls c.requires.countable.fits }
+graph-returns-then-left-eq0 t c = record { answer = c.stopped.ensures.answer _ _ ∙ (let a = c.args in graph_deep _ _ a.s a.cells.now a.p a.f c.if-left-eq0.true); grown = c.stopped.ensures.grown _; counts = stopped_counts _ _ _ c.stopped.ensures.answer; kept = keeps_all _ _; memory = minded_none c.requires.minds.recalls c.requires.minds.fits }
 
 pub graph-opening-opened-requires : goal.graph-opening-opened-requires
 graph-opening-opened-requires t c =
-    let room = opening_countable _ _ _ _ _ c.if-left-eq0.false c.requires.nodes_value.0 in
-    record { model_len_bound = c.requires.minds.short; walked = c.requires.minds.walked; countable = room; recalling = c.requires.countable.recalls; top_bound = c.requires.countable.fits }
+    let room = opening_countable _ _ _ _ _ c.if-left-eq0.false c.requires.countable in
+    record { model_len_bound = c.requires.enters.short; walked = c.requires.enters.walked; countable = room; recalling = c.requires.minds.recalls; top_bound = c.requires.minds.fits }
 
 pub graph-returns-in_default : goal.graph-returns-in_default
 graph-returns-in_default t c =
@@ -132,18 +132,18 @@ pub graph-loop-n-init : goal.graph-loop-n-init
 unfolding contents_of
 graph-loop-n-init t c =
     rw c.contents-c.ensures (
-      going_start _ _ _ _ _ _ _ c.requires.minds.ends,
+      going_start _ _ _ _ _ _ _ c.requires.enters.ends,
       lists_start _ _ _ c.opening-opened.ensures.memory.recalls c.opening-opened.ensures.memory.held.fits _ refl,
-      minds_still c.requires.countable c.opening-opened.ensures.memory,
+      minds_still c.requires.minds c.opening-opened.ensures.memory,
     )
 
 pub graph-graph_outputs-requires : goal.graph-graph_outputs-requires
-graph-graph_outputs-requires t c = record { recalling = c.loop-n.invariant.1.minded.recalls; graph_len_bound = outputs_room _ _ _ _ _ c.if-left-eq0.false c.requires.nodes_value.0 }
+graph-graph_outputs-requires t c = record { recalling = c.loop-n.invariant.1.minded.recalls; graph_len_bound = outputs_room _ _ _ _ _ c.if-left-eq0.false c.requires.countable }
 
 pub graph-counting-requires : goal.graph-counting-requires
 graph-counting-requires t c =
     outputs_fit _ _ _ _ _ _ c.if-left-eq0.false _ _ c.opening-opened.ensures.answer c.opening-opened.ensures.kept c.in-Went.is
-    c.opening-opened.ensures.grown c.loop-n.invariant.0 _ c.graph_outputs.ensures c.requires.nodes_value.0
+    c.opening-opened.ensures.grown c.loop-n.invariant.0 _ c.graph_outputs.ensures c.requires.countable
 
 pub graph-shape_of-cells-in_default-sought : goal.graph-shape_of-cells-in_default-sought
 graph-shape_of-cells-in_default-sought t c = c.loop-n.invariant.0.adding.kept.size ∙ c.opening-opened.ensures.kept.size
@@ -154,7 +154,7 @@ graph-shape_of-extra-in_default-sought t c = c.loop-n.invariant.1.minded.size �
 pub graph-returns-in_default-sought : goal.graph-returns-in_default-sought
 graph-returns-in_default-sought t c =
     let rest = promised_and (nodes_done _ _ _ _ _ _ c.if-left-eq0.false _ _ c.opening-opened.ensures.answer c.opening-opened.ensures.kept c.in-Went.is
-    c.opening-opened.ensures.grown c.loop-n.invariant.0 c.next_of-sought.ensures c.requires.minds c.in_default-sought.is _
+    c.opening-opened.ensures.grown c.loop-n.invariant.0 c.next_of-sought.ensures c.requires.enters c.in_default-sought.is _
     c.graph_outputs.ensures c.counting.ensures)
     (minded_then c.opening-opened.ensures.memory c.loop-n.invariant.1.minded) in
     record { answer = rest.0; grown = rest.1.0; counts = rest.1.1.0; kept = rest.1.1.1.0; memory = rest.1.1.1.1 }
@@ -165,14 +165,14 @@ graph-overflow_sub-left t c = omega (arith, c.if-left-eq0.false)
 pub graph-node-step-requires : goal.graph-node-step-requires
 graph-node-step-requires t c =
     let room = nodes_countable _ _ _ _ _ _ c.if-left-eq0.false _ _ c.opening-opened.ensures.answer c.opening-opened.ensures.kept
-    c.in-Went.is c.requires.nodes_value.0 in (
-      going_shorter c.loop-n.invariant.0 c.next_of-sought.ensures c.in-Found.is c.requires.enters,
+    c.in-Went.is c.requires.countable in (
+      going_shorter c.loop-n.invariant.0 c.next_of-sought.ensures c.in-Found.is c.decreases,
       record {
-        enters = going_enters c.loop-n.invariant.0 c.next_of-sought.ensures c.in-Found.is c.requires.minds.short c.requires.minds.walked
+        enters = going_enters c.loop-n.invariant.0 c.next_of-sought.ensures c.in-Found.is c.requires.enters.short c.requires.enters.walked
             (own_contents _) graph_node (first_low _ _ _ _ _ _ c.if-left-eq0.false _ _ c.opening-opened.ensures.answer c.opening-opened.ensures.kept
-            c.in-Went.is c.requires.minds);
+            c.in-Went.is c.requires.enters);
         minds = minds_higher c.loop-n.invariant.2 c.loop-n.invariant.1.above (lists_fits c.loop-n.invariant.1);
-        listed = rw c.requires.nodes_value.1 (lists_found c.loop-n.invariant.1 c.next_of-sought.ensures c.in-Found.is);
+        listed = rw c.requires.nodes_value (lists_found c.loop-n.invariant.1 c.next_of-sought.ensures c.in-Found.is);
         countable = going_countable c.loop-n.invariant.0 c.next_of-sought.ensures c.in-Found.is room;
       },
     )
@@ -193,7 +193,7 @@ graph-returns-in_default-step t c =
     record { answer = rest.0; grown = rest.1.0; counts = rest.1.1.0; kept = rest.1.1.1.0; memory = rest.1.1.1.1 }
 
 pub graph-list-l-requires : goal.graph-list-l-requires
-graph-list-l-requires t c = record { remembering = c.node-step.ensures.memory.recalls.both; top_bound = c.node-step.ensures.memory.held.fits; model_len_bound = c.requires.minds.short }
+graph-list-l-requires t c = record { remembering = c.node-step.ensures.memory.recalls.both; top_bound = c.node-step.ensures.memory.held.fits; model_len_bound = c.requires.enters.short }
 
 pub graph-loop-n-smaller : goal.graph-loop-n-smaller
 graph-loop-n-smaller t c = going_falls c.loop-n.invariant.0 c.next_of-sought.ensures c.in-Found.is
@@ -208,33 +208,33 @@ graph-loop-n-preserved t c = (
 )
 
 pub node-node_rules-requires : goal.node-node_rules-requires
-node-node_rules-requires t c = record { recalling = c.requires.listed.recalls; imported = c.requires.listed.imported; listed = c.requires.countable.0; f_bound = node_inputs_room _ _ _ _ c.requires.countable.1 }
+node-node_rules-requires t c = record { recalling = c.requires.minds.recalls; imported = c.requires.minds.imported; listed = c.requires.listed; f_bound = node_inputs_room _ _ _ _ c.requires.countable }
 
 pub node-counting-headed-requires : goal.node-counting-headed-requires
-node-counting-headed-requires t c = node_fits _ _ _ _ c.requires.countable.1 _ _ _ _ c.node_rules.ensures
+node-counting-headed-requires t c = node_fits _ _ _ _ c.requires.countable _ _ _ _ c.node_rules.ensures
 
 pub node-returns-in_default : goal.node-returns-in_default
 node-returns-in_default t c =
     let rest = promised_and (node_stops _ _ _ _ _ _ _ _ c.node_rules.ensures c.counting-headed.ensures c.in_default.is)
-    (minded_none c.requires.listed.recalls c.requires.listed.fits) in
+    (minded_none c.requires.minds.recalls c.requires.minds.fits) in
     record { answer = rest.0; grown = rest.1.0; counts = rest.1.1.0; kept = rest.1.1.1.0; memory = rest.1.1.1.1 }
 
 pub node-loop-a-init : goal.node-loop-a-init
 unfolding contents_of
 node-loop-a-init t c =
     rw c.contents-c.ensures (
-      going_start _ _ _ _ _ _ _ c.requires.minds.ends,
-      lists_start _ _ _ c.requires.listed.recalls c.requires.listed.fits _ refl,
-      c.requires.listed,
+      going_start _ _ _ _ _ _ _ c.requires.enters.ends,
+      lists_start _ _ _ c.requires.minds.recalls c.requires.minds.fits _ refl,
+      c.requires.minds,
     )
 
 pub node-closing-requires : goal.node-closing-requires
 node-closing-requires t c =
     let first = node_first _ _ _ _ _ _ _ c.node_rules.ensures c.counting-headed.ensures c.in-Went.is in
     let room = closing_countable _ _ _ _ _ _ _ _ c.node_rules.ensures c.counting-headed.ensures c.in-Went.is
-    c.loop-a.invariant.0 c.requires.countable.1 in
-    let low = node_low c.loop-a.invariant.0 (enters_first {first = c.in-Went.first} first.0 first.1 c.requires.minds) in
-    record { model_len_bound = c.requires.minds.short; walked = c.requires.minds.walked; nodes_bound = low; countable = room; recalling = c.loop-a.invariant.1.minded.recalls }
+    c.loop-a.invariant.0 c.requires.countable in
+    let low = node_low c.loop-a.invariant.0 (enters_first {first = c.in-Went.first} first.0 first.1 c.requires.enters) in
+    record { model_len_bound = c.requires.enters.short; walked = c.requires.enters.walked; nodes_bound = low; countable = room; recalling = c.loop-a.invariant.1.minded.recalls }
 
 pub node-shape_of-cells-in_default-sought : goal.node-shape_of-cells-in_default-sought
 node-shape_of-cells-in_default-sought t c = c.closing.ensures.kept.size ∙ c.loop-a.invariant.0.adding.kept.size
@@ -245,7 +245,7 @@ node-shape_of-extra-in_default-sought t c = c.closing.ensures.memory.size ∙ c.
 pub node-returns-in_default-sought : goal.node-returns-in_default-sought
 node-returns-in_default-sought t c =
     let rest = promised_and (attributes_done _ _ _ _ _ _ _ _ c.node_rules.ensures c.counting-headed.ensures c.in-Went.is
-    c.loop-a.invariant.0 c.next_of-sought.ensures c.requires.minds c.in_default-sought.is _ c.closing.ensures.answer
+    c.loop-a.invariant.0 c.next_of-sought.ensures c.requires.enters c.in_default-sought.is _ c.closing.ensures.answer
     c.closing.ensures.grown c.closing.ensures.kept)
     (minded_then c.loop-a.invariant.1.minded (minded_recalled c.loop-a.invariant.1.minded.held.fits c.closing.ensures.memory)) in
     record { answer = rest.0; grown = rest.1.0; counts = rest.1.1.0; kept = rest.1.1.1.0; memory = rest.1.1.1.1 }
@@ -253,11 +253,11 @@ node-returns-in_default-sought t c =
 pub node-attribute-step-requires : goal.node-attribute-step-requires
 node-attribute-step-requires t c =
     let first = node_first _ _ _ _ _ _ _ c.node_rules.ensures c.counting-headed.ensures c.in-Went.is in
-    let room = attributes_countable _ _ c.args.s _ _ _ _ _ c.node_rules.ensures c.counting-headed.ensures c.in-Went.is c.requires.countable.1 in (
-      going_shorter c.loop-a.invariant.0 c.next_of-sought.ensures c.in-Found.is c.requires.enters,
+    let room = attributes_countable _ _ c.args.s _ _ _ _ _ c.node_rules.ensures c.counting-headed.ensures c.in-Went.is c.requires.countable in (
+      going_shorter c.loop-a.invariant.0 c.next_of-sought.ensures c.in-Found.is c.decreases,
       record {
-        enters = going_enters c.loop-a.invariant.0 c.next_of-sought.ensures c.in-Found.is c.requires.minds.short c.requires.minds.walked
-            (own_contents _) node_attribute (enters_low (enters_first {first = c.in-Went.first} first.0 first.1 c.requires.minds));
+        enters = going_enters c.loop-a.invariant.0 c.next_of-sought.ensures c.in-Found.is c.requires.enters.short c.requires.enters.walked
+            (own_contents _) node_attribute (enters_low (enters_first {first = c.in-Went.first} first.0 first.1 c.requires.enters));
         minds = minds_higher c.loop-a.invariant.2 c.loop-a.invariant.1.above (lists_fits c.loop-a.invariant.1);
         listed = lists_found c.loop-a.invariant.1 c.next_of-sought.ensures c.in-Found.is;
         countable = going_countable c.loop-a.invariant.0 c.next_of-sought.ensures c.in-Found.is room;
@@ -279,7 +279,7 @@ node-returns-in_default-step t c =
     record { answer = rest.0; grown = rest.1.0; counts = rest.1.1.0; kept = rest.1.1.1.0; memory = rest.1.1.1.1 }
 
 pub node-list-own-requires : goal.node-list-own-requires
-node-list-own-requires t c = record { remembering = c.attribute-step.ensures.memory.recalls.both; top_bound = c.attribute-step.ensures.memory.held.fits; model_len_bound = c.requires.minds.short }
+node-list-own-requires t c = record { remembering = c.attribute-step.ensures.memory.recalls.both; top_bound = c.attribute-step.ensures.memory.held.fits; model_len_bound = c.requires.enters.short }
 
 pub node-loop-a-smaller : goal.node-loop-a-smaller
 node-loop-a-smaller t c = going_falls c.loop-a.invariant.0 c.next_of-sought.ensures c.in-Found.is

@@ -17,4 +17,4 @@ returns-in-2 c = row_at Dimension 2 c.in-2.is
 
 pub returns-in_default : goal.returns-in_default
 unfolding Rows-computes contains subset numbers
-returns-in_default c = row_unknown Dimension (2 ∷ 1 ∷ []) c.args.number tt c.in_default.rest
+returns-in_default c = row_unknown Dimension (2 ∷ 1 ∷ []) c.args.number tt c.in_default.in_default-own.rest

@@ -45,4 +45,4 @@ returns-in-13 c = row_at Function 13 c.in-13.is
 
 pub returns-in_default : goal.returns-in_default
 unfolding Rows-computes contains subset numbers
-returns-in_default c = row_unknown Function (13 ∷ 11 ∷ 10 ∷ 9 ∷ 7 ∷ 6 ∷ 5 ∷ 4 ∷ 1 ∷ []) c.args.number tt c.in_default.rest
+returns-in_default c = row_unknown Function (13 ∷ 11 ∷ 10 ∷ 9 ∷ 7 ∷ 6 ∷ 5 ∷ 4 ∷ 1 ∷ []) c.args.number tt c.in_default.in_default-own.rest

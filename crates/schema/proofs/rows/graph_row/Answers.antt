@@ -37,4 +37,4 @@ returns-in-15 c = row_at Graph 15 c.in-15.is
 
 pub returns-in_default : goal.returns-in_default
 unfolding Rows-computes contains subset numbers
-returns-in_default c = row_unknown Graph (15 ∷ 13 ∷ 12 ∷ 11 ∷ 5 ∷ 2 ∷ 1 ∷ []) c.args.number tt c.in_default.rest
+returns-in_default c = row_unknown Graph (15 ∷ 13 ∷ 12 ∷ 11 ∷ 5 ∷ 2 ∷ 1 ∷ []) c.args.number tt c.in_default.in_default-own.rest

@@ -25,4 +25,4 @@ returns-in-25 c = row_at Model 25 c.in-25.is
 
 pub returns-in_default : goal.returns-in_default
 unfolding Rows-computes contains subset numbers
-returns-in_default c = row_unknown Model (25 ∷ 8 ∷ 7 ∷ 1 ∷ []) c.args.number tt c.in_default.rest
+returns-in_default c = row_unknown Model (25 ∷ 8 ∷ 7 ∷ 1 ∷ []) c.args.number tt c.in_default.in_default-own.rest

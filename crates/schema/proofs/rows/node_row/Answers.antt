@@ -33,4 +33,4 @@ returns-in-7 c = row_at Node 7 c.in-7.is
 
 pub returns-in_default : goal.returns-in_default
 unfolding Rows-computes contains subset numbers
-returns-in_default c = row_unknown Node (7 ∷ 5 ∷ 4 ∷ 3 ∷ 2 ∷ 1 ∷ []) c.args.number tt c.in_default.rest
+returns-in_default c = row_unknown Node (7 ∷ 5 ∷ 4 ∷ 3 ∷ 2 ∷ 1 ∷ []) c.args.number tt c.in_default.in_default-own.rest

@@ -13,4 +13,4 @@ returns-in-1 c = row_at Shape 1 c.in-1.is
 
 pub returns-in_default : goal.returns-in_default
 unfolding Rows-computes contains subset numbers
-returns-in_default c = row_unknown Shape (1 ∷ []) c.args.number tt c.in_default.rest
+returns-in_default c = row_unknown Shape (1 ∷ []) c.args.number tt c.in_default.in_default-own.rest

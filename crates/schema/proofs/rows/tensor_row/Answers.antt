@@ -17,4 +17,4 @@ returns-in-8 c = row_at Tensor 8 c.in-8.is
 
 pub returns-in_default : goal.returns-in_default
 unfolding Rows-computes contains subset numbers
-returns-in_default c = row_unknown Tensor (8 ∷ 2 ∷ []) c.args.number tt c.in_default.rest
+returns-in_default c = row_unknown Tensor (8 ∷ 2 ∷ []) c.args.number tt c.in_default.in_default-own.rest

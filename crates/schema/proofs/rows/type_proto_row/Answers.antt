@@ -33,4 +33,4 @@ returns-in-9 c = row_at TypeProto 9 c.in-9.is
 
 pub returns-in_default : goal.returns-in_default
 unfolding Rows-computes contains subset numbers
-returns-in_default c = row_unknown TypeProto (9 ∷ 8 ∷ 7 ∷ 5 ∷ 4 ∷ 1 ∷ []) c.args.number tt c.in_default.rest
+returns-in_default c = row_unknown TypeProto (9 ∷ 8 ∷ 7 ∷ 5 ∷ 4 ∷ 1 ∷ []) c.args.number tt c.in_default.in_default-own.rest

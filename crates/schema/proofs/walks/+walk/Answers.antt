@@ -46,13 +46,13 @@ returns-then-is_too_deep t c =
     _ c.value-read.ensures c.in-Read-read.is) _ c.content_of.ensures c.in-Message.is c.is_too_deep.ensures c.if-is_too_deep.true
 
 pub depth_in-requires : goal.depth_in-requires
-depth_in-requires t c = c.requires.1
+depth_in-requires t c = c.requires
 
 pub walk-walked-requires : goal.walk-walked-requires
 walk-walked-requires t c = (
   inner_falls (walk_turned (walk_tagged c.loop-kind.invariant c.if-end-at.false _ c.tag-tagged.ensures c.in-Read.is c.row_of-row.ensures) c.wire_fits.ensures c.if-not-wire_fits.false c.slot_of-slot.ensures c.is_taken.ensures c.if-is_taken.false
-      _ c.value-read.ensures c.in-Read-read.is) c.requires.0,
-  deeper_low _ c.requires.1 c.is_too_deep.ensures c.if-is_too_deep.false c.depth_in.ensures,
+      _ c.value-read.ensures c.in-Read-read.is) c.decreases,
+  deeper_low _ c.requires c.is_too_deep.ensures c.if-is_too_deep.false c.depth_in.ensures,
 )
 
 pub loop-kind-smaller : goal.loop-kind-smaller

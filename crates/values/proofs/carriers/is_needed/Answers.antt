@@ -24,4 +24,4 @@ returns-in-13 c = contains_at (4 ∷ 5 ∷ 11 ∷ 13 ∷ []) 13 c.in-13.is
 
 pub returns-in_default : goal.returns-in_default
 unfolding contains subset needed
-returns-in_default c = contained_none c.args.code (4 ∷ 5 ∷ 11 ∷ 13 ∷ []) (13 ∷ 11 ∷ 5 ∷ 4 ∷ []) tt c.in_default.rest
+returns-in_default c = contained_none c.args.code (4 ∷ 5 ∷ 11 ∷ 13 ∷ []) (13 ∷ 11 ∷ 5 ∷ 4 ∷ []) tt c.in_default.in_default-own.rest
