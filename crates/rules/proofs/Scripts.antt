@@ -34,6 +34,7 @@ Spans [] p = ⊥
 Spans (f ∷ fs) p = Span f p ⊎ Spans fs p
 
 pub spans_within : (lo hi : ℕ) (fs : List Field) → Ordered lo hi fs → (p : ℕ) → Spans fs p → (lo ≤ p) × (p < hi)
+spans_within lo hi [] o p s = elim s [ ]
 spans_within lo hi (f ∷ fs) o p (inl s) = (omega arith, omega arith)
 spans_within lo hi (f ∷ fs) o p (inr s) = let h = spans_within f.next hi fs o.4 p s in (omega arith, omega arith)
 

@@ -114,6 +114,7 @@ one_more c front rest e t h = (c ∷ h.0, go (scalar c) t h.1, ap₂ (λ (x y : 
   where
     go : (a : Bool) → T a → T (scalars h.0) → T (a && scalars h.0)
     go true t u = u
+    go false t u = elim t [ ]
 
 -- the next byte is the tail that is due, and the rest is as it should be
 record Tail (tails lo hi : ℕ) (s : Bytes) : Type 0 where
