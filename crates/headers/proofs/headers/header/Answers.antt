@@ -37,12 +37,11 @@ returns-then-not-has_from-2 c =
 
 pub returns : goal.returns
 returns c =
-    let rest = rw c.whole-m.ensures at (c.opset_imports.ensures.imported, c.opset_imports.ensures.held) in
     record {
       answer = header_imported _ _ c.whole-m.ensures c.number_from.ensures c.is_ir_version.ensures c.if-not-is_ir_version.false
           c.has_from.ensures c.if-not-has_from.false c.has_from-2.ensures c.if-not-has_from-2.false _ c.opset_imports.ensures.answer;
-      imported = rest.0;
-      held = rest.1;
+      imported = rw c.whole-m.ensures at c.opset_imports.ensures.imported;
+      held = c.opset_imports.ensures.held;
     }
 
 pub number_from-requires : goal.number_from-requires

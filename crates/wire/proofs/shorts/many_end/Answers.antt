@@ -25,9 +25,6 @@ pub loop-i-preserved : goal.loop-i-preserved
 unfolding byte
 loop-i-preserved c = skip_more c.loop-i.invariant c.wide-b.ensures.0 c.loop-i-test.true c.if-b-lt128.false c.wide-b.ensures.1
 
-pub returns-then-wide-ne1 : goal.returns-then-wide-ne1
-returns-then-wide-ne1 c = λ h. absurd (omega arith)
-
 pub returns : goal.returns
 unfolding byte
-returns c = λ h. skip_tenth c.loop-i.invariant c.loop-i-test.false c.wide.ensures.0 c.if-wide-ne1.false (omega arith)
+returns c = λ h. skip_tenth c.loop-i.invariant c.loop-i-test.false c.wide.ensures.0 (omega arith) (omega arith)
