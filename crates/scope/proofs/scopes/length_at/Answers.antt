@@ -9,5 +9,5 @@ unfolding WIDTH
 cell_at-requires c = omega arith
 
 pub returns : goal.returns
-unfolding length_in
+unfolding length_in WIDTH
 returns c = c.cell_at.ensures

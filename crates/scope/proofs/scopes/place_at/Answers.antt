@@ -18,4 +18,5 @@ unfolding WIDTH
 cell_at-requires c = omega arith
 
 pub returns : goal.returns
+unfolding WIDTH
 returns c = let e = c.cell_at.ensures in (e.0 ∙ first_cell _ _, e.1)
