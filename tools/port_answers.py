@@ -219,9 +219,21 @@ LET = re.compile(r"let ([\w'·-]+) = ([\w'·-]+(?:\.[\w'·-]+)*) in\s*")
 def body_of(text, names, place, root="c", left=None):
     names.at = place
     aliases = {root: place}
+    known = {}
 
     def one(it):
         head, tail = it.group(1), it.group(2)
+        if head in known:
+            parts, paths = tail[1:].split("."), list(known[head])
+            while len(paths) > 1 and parts[:1] == ["1"]:
+                parts.pop(0)
+                paths.pop(0)
+            if len(paths) > 1 and parts[:1] == ["0"]:
+                return ".".join([paths[0]] + parts[1:])
+            if len(paths) == 1:
+                return ".".join([paths[0]] + parts)
+            left.append(it.group())
+            return it.group()
         if head not in aliases:
             return it.group()
         try:
@@ -249,6 +261,12 @@ def body_of(text, names, place, root="c", left=None):
             if p is not None:
                 out += PATH.sub(one, text[at : it.start()])
                 aliases[it.group(1)] = p
+                at = it.end()
+                continue
+            if path and path.startswith("("):
+                # all the clauses of a call: each is cited by its name
+                out += PATH.sub(one, text[at : it.start()])
+                known[it.group(1)] = re.findall(r"[\w'·.-]+", path)
                 at = it.end()
                 continue
         out += PATH.sub(one, text[at : it.end()])

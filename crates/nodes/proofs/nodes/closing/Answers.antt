@@ -26,4 +26,4 @@ overflow_add-result c =
 
 pub returns : goal.returns
 unfolding grows
-returns c = record { answer = closing_went _ _ _ _ c.has.ensures c.if-not-has.false _ _ c.node_outputs-step.ensures.answer c.in-Went.is; grown = subst (grows _) c.in-Went.is c.node_outputs-step.ensures.grown; kept = c.node_outputs-step.ensures.kept; memory = c.node_outputs-step.ensures.memory }
+returns c = record { answer = closing_went _ _ _ _ c.has.ensures c.if-not-has.false _ _ c.node_outputs-step.ensures.answer c.in-Went.is; grown = subst (grows c.args.p) c.in-Went.is c.node_outputs-step.ensures.grown; kept = c.node_outputs-step.ensures.kept; memory = c.node_outputs-step.ensures.memory }

@@ -4,5 +4,4 @@ use Rattle.nodes.proofs.nodes.head.Goals as goal
 
 pub node_head-requires : goal.node_head-requires
 node_head-requires c =
-    let rest = rw (others_lent _ _) (c.requires.imported, c.requires.listed) in
-    record { imported = rest.0; listed = rest.1 }
+    record { imported = rw (others_lent _ _) c.requires.imported; listed = rw (others_lent _ _) c.requires.listed }

@@ -18,18 +18,18 @@ declare-step-requires c = record { direct = name_first c.requires.walked tensor_
 pub returns-in_default : goal.returns-in_default
 returns-in_default c =
     let e = c.with_odd-t.ensures in
-    let d = (c.declare-step.ensures.answer, (c.declare-step.ensures.grown, (c.declare-step.ensures.kept, c.declare-step.ensures.memory))) in record { answer = initializer_stops _ _ _ _ _ _ _ _ c.read_name.ensures c.in-Named.is e _ _ d.0 c.in_default.is; grown = odd_grows _ _ e _ d.1.0; kept = odd_keeps _ _ e d.1.1.0; memory = d.1.1.1 }
+    record { answer = initializer_stops _ _ _ _ _ _ _ _ c.read_name.ensures c.in-Named.is e _ _ c.declare-step.ensures.answer c.in_default.is; grown = odd_grows _ _ e _ c.declare-step.ensures.grown; kept = odd_keeps _ _ e c.declare-step.ensures.kept; memory = c.declare-step.ensures.memory }
 
 pub returns-then-is_element : goal.returns-then-is_element
 unfolding step_says
 returns-then-is_element c =
     let e = c.with_odd-t.ensures in
-    let d = (c.declare-step.ensures.answer, (c.declare-step.ensures.grown, (c.declare-step.ensures.kept, c.declare-step.ensures.memory))) in record {
-      answer = initializer_goes _ _ _ _ _ _ _ _ c.read_name.ensures c.in-Named.is e _ _ d.0 c.in-Went.is
+    record {
+      answer = initializer_goes _ _ _ _ _ _ _ _ c.read_name.ensures c.in-Named.is e _ _ c.declare-step.ensures.answer c.in-Went.is
           c.number_of.ensures c.is_element.ensures c.if-is_element.true;
-      grown = subst (grows _) c.in-Went.is (odd_grows _ _ e _ d.1.0);
-      kept = odd_keeps _ _ e d.1.1.0;
-      memory = d.1.1.1;
+      grown = subst (grows _) c.in-Went.is (odd_grows _ _ e _ c.declare-step.ensures.grown);
+      kept = odd_keeps _ _ e c.declare-step.ensures.kept;
+      memory = c.declare-step.ensures.memory;
     }
 
 pub returns-in-Refused : goal.returns-in-Refused
@@ -39,10 +39,10 @@ returns-in-Refused c = record { answer = initializer_unnamed _ _ _ _ _ _ _ _ c.r
 pub returns-else-is_element : goal.returns-else-is_element
 returns-else-is_element c =
     let e = c.with_odd-t.ensures in
-    let d = (c.declare-step.ensures.answer, (c.declare-step.ensures.grown, (c.declare-step.ensures.kept, c.declare-step.ensures.memory))) in record {
-      answer = c.stopped.ensures.answer _ _ ∙ initializer_mistyped _ _ _ _ _ _ _ _ c.read_name.ensures c.in-Named.is e _ _ d.0
+    record {
+      answer = c.stopped.ensures.answer _ _ ∙ initializer_mistyped _ _ _ _ _ _ _ _ c.read_name.ensures c.in-Named.is e _ _ c.declare-step.ensures.answer
           c.in-Went.is c.number_of.ensures c.is_element.ensures c.if-is_element.false c.place_of.ensures;
       grown = c.stopped.ensures.grown _;
-      kept = odd_keeps _ _ e d.1.1.0;
-      memory = d.1.1.1;
+      kept = odd_keeps _ _ e c.declare-step.ensures.kept;
+      memory = c.declare-step.ensures.memory;
     }

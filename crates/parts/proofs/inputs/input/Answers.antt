@@ -18,7 +18,7 @@ define-step-requires c = record { direct = name_first c.requires.walked value_in
 pub returns-in_default : goal.returns-in_default
 returns-in_default c =
     let e = c.with_odd.ensures in
-    let d = (c.define-step.ensures.answer, (c.define-step.ensures.grown, (c.define-step.ensures.kept, c.define-step.ensures.memory))) in record { answer = λ k i. input_stops _ _ k _ _ _ _ c.read_name.ensures c.in-Named.is e _ _ d.0 c.in_default.is; grown = odd_grows _ _ e _ d.1.0; kept = odd_keeps _ _ e d.1.1.0; memory = d.1.1.1 }
+    record { answer = λ k i. input_stops _ _ k _ _ _ _ c.read_name.ensures c.in-Named.is e _ _ c.define-step.ensures.answer c.in_default.is; grown = odd_grows _ _ e _ c.define-step.ensures.grown; kept = odd_keeps _ _ e c.define-step.ensures.kept; memory = c.define-step.ensures.memory }
 
 pub counting-requires : goal.counting-requires
 counting-requires c =
@@ -32,11 +32,11 @@ returns-in-Refused c = record { answer = λ k e. input_unnamed _ _ k _ _ _ _ c.r
 pub returns-in-Went : goal.returns-in-Went
 returns-in-Went c =
     let e = c.with_odd.ensures in
-    let d = (c.define-step.ensures.answer, (c.define-step.ensures.grown, (c.define-step.ensures.kept, c.define-step.ensures.memory))) in record {
+    record {
       answer = λ k i. ap (step_says _ _) c.counting.ensures
-          ∙ input_goes _ _ k _ _ _ _ c.read_name.ensures c.in-Named.is e _ _ d.0 c.in-Went.is _
+          ∙ input_goes _ _ k _ _ _ _ c.read_name.ensures c.in-Named.is e _ _ c.define-step.ensures.answer c.in-Went.is _
           (c.main_type.ensures k _ i);
-      grown = rw c.counting.ensures (input_grows _ _ (odd_grows _ _ e _ d.1.0) c.in-Went.is _);
-      kept = odd_keeps _ _ e d.1.1.0;
-      memory = d.1.1.1;
+      grown = rw c.counting.ensures (input_grows _ _ (odd_grows _ _ e _ c.define-step.ensures.grown) c.in-Went.is _);
+      kept = odd_keeps _ _ e c.define-step.ensures.kept;
+      memory = c.define-step.ensures.memory;
     }

@@ -40,13 +40,15 @@ input-step-requires c =
 
 pub returns-in_default-step : goal.returns-in_default-step
 returns-in_default-step c =
-    let rest = let d =
+    let d =
     adding_stops c.loop-f.invariant.0 c.next_of-sought.ensures c.in-Found.is _ (c.input-step.ensures.answer _ refl) c.input-step.ensures.grown
-    c.input-step.ensures.kept c.in_default-step.is in (
-      λ k e. d.0 ∙ along_contents _ _ _ _ _ c.contents-c.ensures ∙ inputs_any _ _ _ k e _ _,
-      (d.1.0, (d.1.1, recalled_then c.loop-f.invariant.1 c.input-step.ensures.memory)),
-    ) in
-    record { answer = rest.0; grown = rest.1.0; kept = rest.1.1.0; memory = rest.1.1.1 }
+    c.input-step.ensures.kept c.in_default-step.is in
+    record {
+      answer = λ k e. d.0 ∙ along_contents _ _ _ _ _ c.contents-c.ensures ∙ inputs_any _ _ _ k e _ _;
+      grown = d.1.0;
+      kept = d.1.1;
+      memory = recalled_then c.loop-f.invariant.1 c.input-step.ensures.memory;
+    }
 
 pub loop-f-smaller : goal.loop-f-smaller
 loop-f-smaller c = adding_falls c.loop-f.invariant.0 c.next_of-sought.ensures c.in-Found.is

@@ -59,7 +59,6 @@ overflow_add-odd c =
     let sum = tallied_sum c.loop-a.invariant.0 _ c.contents-c.ensures c.next_of-sought.ensures c.in-Found.is
     (default_few _ _ _ c.default_name-tally.ensures c.in-Counted.is) in
     let few = defaults_few c.args.model.now c.args.f in
-    let size = (c.requires.model_len_bound, c.requires.next_in_bounds) in
     omega arith
 
 pub loop-a-smaller : goal.loop-a-smaller

@@ -17,7 +17,6 @@ pub counting-requires : goal.counting-requires
 counting-requires c =
     let first = attributes_few c.args.model.now c.args.f in
     let second = defaults_few c.args.model.now c.args.f in
-    let size = (c.requires.model_len_bound, c.requires.next_in_bounds) in
     room _ _ (told_few _ _ _ _ _ c.attribute_names-listed.ensures.listed c.in-Listed.is) _ _ _ _ _ c.defaults.ensures.listed (omega arith)
 
 pub returns : goal.returns

@@ -32,7 +32,6 @@ counting-requires c =
     let first = attributes_few c.args.model.now c.args.f in
     let second = defaults_few c.args.model.now c.args.f in
     let both = names_both c.args.model.now c.args.f in
-    let size = (c.requires.model_len_bound, c.requires.next_in_bounds) in
     room _ _ (name_few _ _ _ _ (read_tally _ _ _ _ _ c.read_name.ensures c.tally_of-tally.ensures) c.in-Counted.is) _ _ _ _ _
     c.all_attributes.ensures.listed (omega arith)
 
