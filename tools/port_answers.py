@@ -585,16 +585,8 @@ def turn_cycle(path, found, crate, function):
                 callee and plain(step[0]) == plain(re.sub(r"-requires(-(\d+))?$", r"\2", m.group(2))) and callee.split("::")[-1] in members
                 for _, _, step, callee, _ in names.places.values()
             )
-            if asked and calls_cycle:
-                lets = ""
-                while not parts_of(made):
-                    it = re.match(r"\s*let [\w'·-]+ (?:: .*?)?= .*? in\s+(?=\(|let |[a-z])", made, re.S)
-                    if not it:
-                        break
-                    lets, made = lets + it.group(), made[it.end() :]
-                parts = parts_of(made)
-                made = lets + (f"({parts[0]}, {in_record(', '.join(parts[1:]), asked)})" if parts else made + " -- LEFT")
-            elif asked:
+            # what a call within the cycle asks is a pair of the measure's fall and of all clauses, with no names
+            if asked and not calls_cycle:
                 made = in_record(made, asked)
             new = (m.group(1) + "-" if several else "") + new
             nl = "\n    " if "\n" in made else " "

@@ -77,14 +77,18 @@ attribute-graph-step-requires t c =
     c.in-Went.is c.number_of.ensures c.carrier_of-number.ensures c.is_body.ensures c.if-not-is_body.false
     c.requires.countable in (
       going_shorter g c.next_of-sought.ensures c.in-Found.is c.decreases,
-      record {
-        enters = going_enters g c.next_of-sought.ensures c.in-Found.is c.requires.enters.short c.requires.enters.walked
+      (
+        going_enters g c.next_of-sought.ensures c.in-Found.is c.requires.enters.short c.requires.enters.walked
             (own_contents c.args.f) (attribute_body _ (true_T _ (sym c.is_body.ensures ∙ not-false _ c.if-not-is_body.false-raw)))
-            (enters_low (enters_first {first = c.in-Went.first} first.0 first.1 c.requires.enters));
-        minds = inner_minds c.args.s c.nested.ensures _ c.loop-g.invariant.1;
-        countable = inner_countable _ _ c.args.s c.nested.ensures _ _ (going_countable g c.next_of-sought.ensures c.in-Found.is room);
-        nodes_value = inner_nodes c.args.s c.nested.ensures;
-      },
+            (enters_low (enters_first {first = c.in-Went.first} first.0 first.1 c.requires.enters)),
+        (
+          inner_minds c.args.s c.nested.ensures _ c.loop-g.invariant.1,
+          (
+            inner_countable _ _ c.args.s c.nested.ensures _ _ (going_countable g c.next_of-sought.ensures c.in-Found.is room),
+            inner_nodes c.args.s c.nested.ensures,
+          ),
+        ),
+      ),
     )
 
 pub attribute-shape_of-cells-in_default-step : goal.attribute-shape_of-cells-in_default-step
@@ -167,14 +171,18 @@ graph-node-step-requires t c =
     let room = nodes_countable _ _ _ _ _ _ c.if-left-eq0.false _ _ c.opening-opened.ensures.answer c.opening-opened.ensures.kept
     c.in-Went.is c.requires.countable in (
       going_shorter c.loop-n.invariant.0 c.next_of-sought.ensures c.in-Found.is c.decreases,
-      record {
-        enters = going_enters c.loop-n.invariant.0 c.next_of-sought.ensures c.in-Found.is c.requires.enters.short c.requires.enters.walked
+      (
+        going_enters c.loop-n.invariant.0 c.next_of-sought.ensures c.in-Found.is c.requires.enters.short c.requires.enters.walked
             (own_contents _) graph_node (first_low _ _ _ _ _ _ c.if-left-eq0.false _ _ c.opening-opened.ensures.answer c.opening-opened.ensures.kept
-            c.in-Went.is c.requires.enters);
-        minds = minds_higher c.loop-n.invariant.2 c.loop-n.invariant.1.above (lists_fits c.loop-n.invariant.1);
-        listed = rw c.requires.nodes_value (lists_found c.loop-n.invariant.1 c.next_of-sought.ensures c.in-Found.is);
-        countable = going_countable c.loop-n.invariant.0 c.next_of-sought.ensures c.in-Found.is room;
-      },
+            c.in-Went.is c.requires.enters),
+        (
+          minds_higher c.loop-n.invariant.2 c.loop-n.invariant.1.above (lists_fits c.loop-n.invariant.1),
+          (
+            rw c.requires.nodes_value (lists_found c.loop-n.invariant.1 c.next_of-sought.ensures c.in-Found.is),
+            going_countable c.loop-n.invariant.0 c.next_of-sought.ensures c.in-Found.is room,
+          ),
+        ),
+      ),
     )
 
 pub graph-shape_of-cells-in_default-step : goal.graph-shape_of-cells-in_default-step
@@ -255,13 +263,17 @@ node-attribute-step-requires t c =
     let first = node_first _ _ _ _ _ _ _ c.node_rules.ensures c.counting-headed.ensures c.in-Went.is in
     let room = attributes_countable _ _ c.args.s _ _ _ _ _ c.node_rules.ensures c.counting-headed.ensures c.in-Went.is c.requires.countable in (
       going_shorter c.loop-a.invariant.0 c.next_of-sought.ensures c.in-Found.is c.decreases,
-      record {
-        enters = going_enters c.loop-a.invariant.0 c.next_of-sought.ensures c.in-Found.is c.requires.enters.short c.requires.enters.walked
-            (own_contents _) node_attribute (enters_low (enters_first {first = c.in-Went.first} first.0 first.1 c.requires.enters));
-        minds = minds_higher c.loop-a.invariant.2 c.loop-a.invariant.1.above (lists_fits c.loop-a.invariant.1);
-        listed = lists_found c.loop-a.invariant.1 c.next_of-sought.ensures c.in-Found.is;
-        countable = going_countable c.loop-a.invariant.0 c.next_of-sought.ensures c.in-Found.is room;
-      },
+      (
+        going_enters c.loop-a.invariant.0 c.next_of-sought.ensures c.in-Found.is c.requires.enters.short c.requires.enters.walked
+            (own_contents _) node_attribute (enters_low (enters_first {first = c.in-Went.first} first.0 first.1 c.requires.enters)),
+        (
+          minds_higher c.loop-a.invariant.2 c.loop-a.invariant.1.above (lists_fits c.loop-a.invariant.1),
+          (
+            lists_found c.loop-a.invariant.1 c.next_of-sought.ensures c.in-Found.is,
+            going_countable c.loop-a.invariant.0 c.next_of-sought.ensures c.in-Found.is room,
+          ),
+        ),
+      ),
     )
 
 pub node-shape_of-cells-in_default-step : goal.node-shape_of-cells-in_default-step
