@@ -5,8 +5,7 @@ use Rattle.second_walk.proofs.model_functions.add_function.Goals as goal
 
 pub add-requires : goal.add-requires
 add-requires c =
-    let rest = rw (others_lent _ _) (c.requires.identified, c.requires.model_len_bound) in
-    record { identified = rest.0; model_len_bound = rest.1 }
+    record { identified = rw (others_lent _ _) c.requires.identified; model_len_bound = c.requires.model_len_bound }
 
 pub returns : goal.returns
 returns c =

@@ -31,8 +31,10 @@ slice_bounds-is_defined-end c =
 
 pub is_defined-twice-requires : goal.is_defined-twice-requires
 is_defined-twice-requires c =
-    let rest = rw (others_lent _ _) (defining_before c.loop-f.invariant.table c.next_of-sought.ensures c.in-Found.is, c.requires.starts) in
-    record { identified = rest.0; starts = rest.1 }
+    record {
+      identified = rw (others_lent _ _) (defining_before c.loop-f.invariant.table c.next_of-sought.ensures c.in-Found.is);
+      starts = c.requires.starts;
+    }
 
 pub judge_function-step-requires : goal.judge_function-step-requires
 judge_function-step-requires c = record { enters = judging_enters c.loop-f.invariant c.next_of-sought.ensures c.in-Found.is c.requires.model_len_bound c.requires.model_value; last_in_bounds = omega (arith, c.requires.last_in_bounds, c.loop-f.invariant.sized); recalling = c.loop-f.invariant.memory; countable = judging_countable c.loop-f.invariant c.next_of-sought.ensures c.in-Found.is c.requires.model_len_bound }
