@@ -1,6 +1,4 @@
-use Prim.Native.Nat.{◌-◌}
-use lib.ListN.{length}
-use Rattle.report.proofs.LineLaws.{Putting, put_start, put_turn, put_done}
+use Rattle.report.proofs.LineLaws.{put_start, put_turn, put_done}
 use borrow.Author.Rules.{rules}
 use Rattle.report.proofs.put.Goals as goal
 
@@ -14,4 +12,6 @@ pub shape_of-out : goal.shape_of-out
 shape_of-out c = c.loop-i.invariant.whole
 
 pub returns : goal.returns
-returns c = put_done c.loop-i.invariant (search rules)
+returns c =
+    let rest = put_done c.loop-i.invariant (search rules) in
+    record { size = rest.0; text = rest.1 }

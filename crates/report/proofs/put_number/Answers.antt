@@ -5,34 +5,22 @@ use lib.ListN.{length, take}
 use lib.Seq.{paste}
 use Rattle.report.specs.Line.{decimal}
 use Rattle.report.proofs.DecimalLaws.{at_most, decimal_digits}
-use borrow.Author.Rules.{rules}
 use Rattle.report.proofs.put_number.Goals as goal
 
 -- Twenty digits hold a number of 64 bits.
-few : (c : tie.After-decimal) → c.decimal.result ≤ 20
-few c = at_most c.before.before.before.args.n c.decimal.result 20 c.decimal.ensures.1.0 (omega arith) (omega arith)
-
 pub put-requires : goal.put-requires
-put-requires c = omega (arith, few c.before.before, c.decimal-k.ensures.0.1, c.requires)
+put-requires c =
+    let few : c.decimal-k.result ≤ 20 = at_most _ _ 20 c.decimal-k.ensures.len (omega arith) (omega arith) in
+    omega (arith, few, c.decimal-k.ensures.in_bounds.1, c.requires)
 
 -- What was put is the number's text.
-spelled : (c : tie.After-decimal) → take c.decimal.result c.decimal.new.1.0 ≡ decimal c.before.before.before.args.n
-spelled c = c.decimal.ensures.1.1 ∙ decimal_digits _ _ c.decimal.ensures.1.0
-
 pub returns : goal.returns
 returns c =
-    let at = c.args.at in
-    let out = c.args.out.now in
-    let told = c.put.ensures in (
-      omega (arith, few c.before.before.before.before.before, c.decimal-k.ensures.0.1, told.0),
-      (
-        told.0 ∙ ap (λ l. at + length l) (spelled c.before.before.before.before.before),
-        told.1 ∙ ap (λ l. paste out at l (length l)) (spelled c.before.before.before.before.before),
-      ),
-    )
--- LEFT helper few
--- LEFT c.before.before is a place
--- LEFT helper spelled
--- LEFT c.before.before.before.before.before is a place
--- LEFT c.before.before.before.before.before is a place
--- LEFT c.before.before.before.before.before is a place
+    let few : c.decimal-k.result ≤ 20 = at_most _ _ 20 c.decimal-k.ensures.len (omega arith) (omega arith) in
+    let spelled : take c.decimal-k.result c.decimal-k.new.out ≡ decimal c.args.n =
+    c.decimal-k.ensures.digits ∙ decimal_digits _ _ c.decimal-k.ensures.len in
+    record {
+      few = omega (arith, few, c.decimal-k.ensures.in_bounds.1, c.put.ensures.size);
+      size = c.put.ensures.size ∙ ap (λ l. c.args.at + length l) spelled;
+      text = c.put.ensures.text ∙ ap (λ l. paste c.args.out.now c.args.at l (length l)) spelled;
+    }
