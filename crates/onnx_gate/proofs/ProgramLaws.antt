@@ -32,6 +32,9 @@ module _ (model list : Bytes) where
   unfolding answered ◌>>◌ refuse◌at:◌when:◌
   both_fit {m} {l} e d = ap (λ b. answered model false list b) (sym d) ∙ ap (λ b. answered model b list l) (sym e)
 
+-- The three, for `decide`.
+pub ruleset answering = (model_longer_lem, list_longer_lem, both_fit)
+
 -- What is printed of a buffer is the text that was put at its start.
 pub printed : (text out₀ : Bytes) {r : ℕ} {out : Bytes} → r ≡ length text → out ≡ over text out₀ → take r out ≡ text
 unfolding over

@@ -25,6 +25,7 @@ pub(crate) fn reply(
 }
 
 // "a longer model prints refusal 7 and a longer list 8, both at 0, 7 first"; all else is the library's answer.
+#[tactic(auto, using(crate::proofs::ProgramLaws::answering), unfolding(gate::specs::Meaning::meaning))]
 fn decide(model: &[u8], is_model_longer: bool, list: &[u8], is_list_longer: bool) -> Answer
     ensures { meaning result ≡ answered model.now is_model_longer list.now is_list_longer }
 {

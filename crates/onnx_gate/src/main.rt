@@ -7,14 +7,14 @@ mod files;
 
 use decisions::reply;
 use files::load;
-use libc::STDOUT_FILENO;
+use std::io;
 
 // "It has a model buffer of 32,768 bytes, a list buffer of 4,096 bytes and 4,096 cells."
-fn main() {
+fn main(rt: HostRuntime) -> io::Result<()> {
     let mut list = [0u8; 4096];
-    let listed = load(b"operators.lst", &mut list);
+    let listed = load(&rt, "operators.lst", &mut list);
     let mut model = [0u8; 32768];
-    let modelled = load(b"model.onnx", &mut model);
+    let modelled = load(&rt, "model.onnx", &mut model);
     let m = modelled.size;
     let l = listed.size;
     let mut text = [0u8; 96];
@@ -25,5 +25,5 @@ fn main() {
         listed.is_longer,
         &mut text,
     );
-    io::write_all(STDOUT_FILENO, &text[..n]);
+    rt.write_all(&text[..n])
 }

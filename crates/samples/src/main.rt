@@ -6,14 +6,16 @@ mod rows;
 mod shortcuts;
 mod shown;
 
-fn main() {
-    rows::two_cells();
-    rows::imports();
-    rows::ir_versions();
-    rows::nested();
-    shortcuts::own_result();
-    shortcuts::wire_order();
-    shortcuts::branches();
-    shortcuts::defaults();
-    shortcuts::prefixes();
+use std::io;
+
+fn main(rt: HostRuntime) -> io::Result<()> {
+    rows::two_cells(&rt)?;
+    rows::imports(&rt)?;
+    rows::ir_versions(&rt)?;
+    rows::nested(&rt)?;
+    shortcuts::own_result(&rt)?;
+    shortcuts::wire_order(&rt)?;
+    shortcuts::branches(&rt)?;
+    shortcuts::defaults(&rt)?;
+    shortcuts::prefixes(&rt)
 }

@@ -1,62 +1,73 @@
 // Document 01, "Sample models under L": the rows that are not marked P and fit in a frame, and those that document 02 changes. The rows at
 // the limit of size do not fit.
 use crate::shown::{row, row_with};
+use std::io;
 
 // "In 01 the accepted M1 row takes two cells; the row that answers 23 at 16 takes two and adds 13." With one cell no name fits.
-pub(crate) fn two_cells() {
+pub(crate) fn two_cells(rt: &impl Print) -> io::Result<()> {
     let model = b"\x08\x08\x42\x02\x10\x0D\x3A\x0B\x12\x01g\x0A\x06\x12\x01a\x22\x01X";
-    row_with(b"M1, two cells", model, &mut [0; 2]);
-    row_with(b"M1, one cell", model, &mut [0; 1]);
+    row_with(rt, b"M1, two cells", model, &mut [0; 2])?;
+    row_with(rt, b"M1, one cell", model, &mut [0; 1])?;
     row_with(
+        rt,
         b"M1 with its output twice, two cells",
         b"\x08\x08\x42\x02\x10\x0D\x3A\x0E\x12\x01g\x0A\x09\x12\x01a\x12\x01a\x22\x01X",
         &mut [0; 2],
-    );
+    )
 }
 
 // "M0 with import 7 or 21 / 6 or 22 | accepted / 14 at 2"
-pub(crate) fn imports() {
+pub(crate) fn imports(rt: &impl Print) -> io::Result<()> {
     row(
+        rt,
         b"M0 with import 7",
         b"\x08\x08\x42\x02\x10\x07\x3A\x03\x12\x01g",
-    );
+    )?;
     row(
+        rt,
         b"M0 with import 21",
         b"\x08\x08\x42\x02\x10\x15\x3A\x03\x12\x01g",
-    );
+    )?;
     row(
+        rt,
         b"M0 with import 6",
         b"\x08\x08\x42\x02\x10\x06\x3A\x03\x12\x01g",
-    );
+    )?;
     row(
+        rt,
         b"M0 with import 22",
         b"\x08\x08\x42\x02\x10\x16\x3A\x03\x12\x01g",
-    );
+    )
 }
 
 // "M0 with ir_version 4 or 10 / 3 or 11 | accepted / 10 at 0", which "becomes 3 or 11 / 2 or 12".
-pub(crate) fn ir_versions() {
+pub(crate) fn ir_versions(rt: &impl Print) -> io::Result<()> {
     row(
+        rt,
         b"M0 with ir_version 3",
         b"\x08\x03\x42\x02\x10\x0D\x3A\x03\x12\x01g",
-    );
+    )?;
     row(
+        rt,
         b"M0 with ir_version 11",
         b"\x08\x0B\x42\x02\x10\x0D\x3A\x03\x12\x01g",
-    );
+    )?;
     row(
+        rt,
         b"M0 with ir_version 2",
         b"\x08\x02\x42\x02\x10\x0D\x3A\x03\x12\x01g",
-    );
+    )?;
     row(
+        rt,
         b"M0 with ir_version 12",
         b"\x08\x0C\x42\x02\x10\x0D\x3A\x03\x12\x01g",
-    );
+    )
 }
 
 // "graphs nested to 8 / 9 | no 6 / 6": in each graph but the last a node holds the next one.
-pub(crate) fn nested() {
+pub(crate) fn nested(rt: &impl Print) -> io::Result<()> {
     row(
+        rt,
         b"graphs nested to 8",
         b"\x08\x08\x42\x02\x10\x0D\x3A\x91\x01\
           \x12\x01g\
@@ -68,8 +79,9 @@ pub(crate) fn nested() {
                     \x0A\x26\x22\x01X\x2A\x1F\x0A\x01a\xA0\x01\x05\x32\x17\x12\x01g\
                       \x0A\x12\x22\x01X\x2A\x0B\x0A\x01a\xA0\x01\x05\x32\x03\x12\x01g\
           \x12\x00\x12\x00\x12\x00\x12\x00\x12\x00\x12\x00\x12\x00",
-    );
+    )?;
     row(
+        rt,
         b"graphs nested to 9",
         b"\x08\x08\x42\x02\x10\x0D\x3A\xA8\x01\
           \x12\x01g\
@@ -82,5 +94,5 @@ pub(crate) fn nested() {
                       \x0A\x26\x22\x01X\x2A\x1F\x0A\x01a\xA0\x01\x05\x32\x17\x12\x01g\
                         \x0A\x12\x22\x01X\x2A\x0B\x0A\x01a\xA0\x01\x05\x32\x03\x12\x01g\
           \x12\x00\x12\x00\x12\x00\x12\x00\x12\x00\x12\x00\x12\x00\x12\x00",
-    );
+    )
 }
