@@ -5,7 +5,7 @@ ghost use Rattle.varint.specs.Outcome.{refused, refused_with};
 ghost use Rattle.varint.specs.Bytes.{Bytes};
 ghost use Rattle.varint.specs.Encoding.{encode};
 ghost use Rattle.wire.specs.Encoding.{contents_at};
-ghost use Rattle.rules.specs.Verdict.{WIDTH, room};
+ghost use Rattle.rules.specs.Verdict.{WIDTH as width, room};
 ghost use Rattle.scope.specs.Scope.{place_in, length_in, stored, first_in, step_says, standing, with_odd, counting, left, grows};
 ghost use Rattle.values.specs.Answers.{Addable};
 ghost use Rattle.scope.specs.declared.scopes.Progress.{Progress};
@@ -46,8 +46,8 @@ pub fn room(cells: usize) -> usize
 
 // A cell of a record, or 0 where it is not there. A number of no record is not multiplied, since that could overflow.
 fn cell_at(cells: &[u32], i: usize, offset: usize) -> usize
-    requires { offset < WIDTH }
-    ensures { (result ≡ get_or cells.now (WIDTH * i + offset) 0) × (result < 2 ^ 32) }
+    requires { offset < width }
+    ensures { (result ≡ get_or cells.now (width * i + offset) 0) × (result < 2 ^ 32) }
 {
     if cells.len() <= i {
         return 0;
