@@ -1,6 +1,5 @@
 -- The table of rows, printed as document 01 prints it: a wrong row cannot hide.
 use Rattle.std.specs.Prelude.{ℕ, ◌/◌, ◌%◌, ◌≡◌, refl, true, false, List, [], ◌∷◌, map, get_or, ltb}
-use Prim.Native.String as String
 use Prim.Native.String.{String, ◌++◌}
 use Rattle.schema.specs.declared.Kind.{Kind}
 use Rattle.schema.specs.declared.Kind.TheVariants.{Model, OperatorSetId, Function, Graph, Node, Attribute, Tensor, ValueInfo, TypeProto, TensorType, Shape, Dimension}

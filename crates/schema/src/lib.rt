@@ -1,4 +1,6 @@
 // The messages of ONNX that the gate opens, the rows of each as one table, and the first walk over them.
+#![tactic(auto)]
+
 mod rows;
 mod walks;
 

@@ -3,7 +3,7 @@ use Prim.Native.Nat.{ℕ, zero, suc, ◌+◌, ◌-◌, ◌≤◌, ◌<◌}
 use native.Mathlib.Omega.{arith}
 use native.Mathlib.Numerals.{add-one}
 use mathlib.Core.Path.{◌≡◌, refl, sym, ap, ◌∙◌}
-use mathlib.Core.Bool.{Bool, false, not, ◌&&◌}
+use mathlib.Core.Bool.{Bool, false, ◌&&◌}
 use mathlib.Core.List.{[], ◌∷◌}
 use mathlib.Core.Option.{Option, none, some}
 use lib.ListN.{length, get_or, drop, drop_of_length-le}
@@ -12,7 +12,7 @@ use lib.Dec.{eqb}
 use borrow.Author.Tests.{ne_eqb}
 use Rattle.varint.specs.Lists.{within}
 use Rattle.varint.specs.Bytes.{Bytes}
-use Rattle.spelling.specs.Utf8.{Ahead, leads, announced, octets, well_formed, tail}
+use Rattle.spelling.specs.Utf8.{Ahead, leads, announced, octets, well_formed}
 use Rattle.spelling.proofs.Utf8Rows.{within_in, within_above, within_below, ascii_in}
 
 at_drop : (s : Bytes) (i : ℕ) → i < length s → drop i s ≡ get_or s i 0 ∷ drop (i + 1) s

@@ -1,7 +1,6 @@
 -- How samples are written down: bytes in hexadecimal, as document 01 prints them, and names as text. Only samples use this.
 use Rattle.std.specs.Prelude.{ℕ, ◌+◌, ◌*◌, ◌-◌, true, false, List, [], ◌∷◌, leb, eqb}
 use Prim.Native.Char.{Char, code}
-use Prim.Native.String as String
 use Prim.Native.String.{String}
 use Rattle.varint.specs.Bytes.{Bytes}
 

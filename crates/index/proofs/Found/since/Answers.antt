@@ -1,6 +1,5 @@
 use mathlib.Core.Path.{sym, ap}
 use Rattle.index.specs.Table.{since}
-use borrow.Author.Rules.{rules}
 use Rattle.index.proofs.Found.since.Goals as goal
 
 pub returns-in-At : goal.returns-in-At

@@ -1,7 +1,6 @@
 use Prim.Native.Nat.{ℕ, ◌*◌, ◌/◌}
 use mathlib.Core.Path.{ap, ◌∙◌}
 use Rattle.index.specs.Bucket.{bucket}
-use borrow.Author.Rules.{rules}
 use Rattle.index.proofs.buckets.bucket_of.Goals as goal
 
 pub returns : goal.returns

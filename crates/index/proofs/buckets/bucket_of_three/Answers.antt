@@ -1,5 +1,4 @@
 use Rattle.index.proofs.BucketLaws.{three_mixed}
-use borrow.Author.Rules.{rules}
 use Rattle.index.proofs.buckets.bucket_of_three.Goals as goal
 
 pub returns : goal.returns

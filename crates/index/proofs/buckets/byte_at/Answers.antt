@@ -2,7 +2,6 @@ use native.Mathlib.Omega.{arith}
 use mathlib.Core.Path.{refl, sym}
 use lib.ListN.{get_or-eq_default}
 use Rattle.varint.specs.Bytes.{byte}
-use borrow.Author.Rules.{rules}
 use Rattle.index.proofs.buckets.byte_at.Goals as goal
 
 pub overflow_cast-result : goal.overflow_cast-result

@@ -1,6 +1,5 @@
 use native.Mathlib.Omega.{arith}
 use Rattle.index.proofs.BucketLaws.{digit_of}
-use borrow.Author.Rules.{rules}
 use Rattle.index.proofs.buckets.digit_at.Goals as goal
 
 pub returns : goal.returns

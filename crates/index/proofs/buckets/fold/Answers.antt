@@ -2,7 +2,6 @@ use native.Mathlib.Omega.{arith}
 use mathlib.Core.Path.{refl}
 use Rattle.index.specs.Bucket.{fold}
 use Rattle.index.proofs.BucketLaws.{fold_lt}
-use borrow.Author.Rules.{rules}
 use Rattle.index.proofs.buckets.fold.Goals as goal
 
 pub overflow_add-result : goal.overflow_add-result

@@ -1,12 +1,10 @@
 use Rattle.index.proofs.BucketLaws.{digit_fits, number_start, number_next, number_end, digit_inside}
-use Rattle.index.specs.Bucket.{PRIME, number}
+use Rattle.index.specs.Bucket.{PRIME}
 use lib.Dec.{lit<}
 use lib.ListN.{length}
-use mathlib.Core.Path.{◌≡◌, refl}
+use mathlib.Core.Path.{refl}
 use native.Mathlib.Nat.{mod-lt}
 use native.Mathlib.Omega.{arith}
-use Prim.Native.Nat.{◌+◌, ◌-◌, ◌/◌, ◌^◌, ◌<◌, ◌≤◌}
-use borrow.Author.Rules.{rules}
 use Rattle.index.proofs.buckets.hash_of.Goals as goal
 
 pub loop-k-init : goal.loop-k-init

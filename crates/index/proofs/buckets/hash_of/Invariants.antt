@@ -1,10 +1,6 @@
-use Rattle.index.proofs.BucketLaws.{digit_fits, number_start, number_next, number_end, digit_inside}
-use Rattle.index.specs.Bucket.{PRIME, number}
-use lib.Dec.{lit<}
+use Rattle.index.specs.Bucket.{number}
 use lib.ListN.{length}
-use mathlib.Core.Path.{◌≡◌, refl}
-use native.Mathlib.Nat.{mod-lt}
-use native.Mathlib.Omega.{arith}
+use mathlib.Core.Path.{◌≡◌}
 use Prim.Native.Nat.{◌+◌, ◌-◌, ◌/◌, ◌^◌, ◌<◌, ◌≤◌}
 use Rattle.index.proofs.buckets.hash_of.Given as goal
 

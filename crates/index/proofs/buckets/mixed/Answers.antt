@@ -5,7 +5,6 @@ use mathlib.Core.Path.{ap}
 use lib.Dec.{lit<}
 use Rattle.index.specs.Bucket.{PRIME, mixed}
 use Rattle.index.proofs.BucketLaws.{scale_fits, scale_lt}
-use borrow.Author.Rules.{rules}
 use Rattle.index.proofs.buckets.mixed.Goals as goal
 
 pub overflow_mul-result : goal.overflow_mul-result

@@ -1,7 +1,6 @@
 use native.Mathlib.Omega.{arith}
 use mathlib.Core.Path.{refl}
 use Rattle.index.proofs.BucketLaws.{size_fits, scaled_lt}
-use borrow.Author.Rules.{rules}
 use Rattle.index.proofs.buckets.scaled.Goals as goal
 
 pub overflow_mul-result : goal.overflow_mul-result

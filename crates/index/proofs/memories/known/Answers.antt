@@ -2,7 +2,6 @@ use native.Mathlib.Omega.{arith}
 use mathlib.Core.Path.{sym}
 use lib.ListN.{get_or-eq_default}
 use Rattle.index.specs.Memory.{known}
-use borrow.Author.Rules.{rules}
 use Rattle.index.proofs.memories.known.Goals as goal
 
 pub returns-then-cells-eq0 : goal.returns-then-cells-eq0

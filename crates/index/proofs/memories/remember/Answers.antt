@@ -1,6 +1,5 @@
 use Rattle.index.proofs.MemoryLaws.{remember_none, remember_far, remember_here, lent_index, lent_replaced}
 use native.Mathlib.Omega.{arith}
-use borrow.Author.Rules.{rules}
 use Rattle.index.proofs.memories.remember.Goals as goal
 
 pub returns-then-cells-eq0 : goal.returns-then-cells-eq0

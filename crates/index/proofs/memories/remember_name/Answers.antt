@@ -1,5 +1,4 @@
 use Rattle.index.proofs.MemoryLaws.{remembered_text}
-use borrow.Author.Rules.{rules}
 use Rattle.index.proofs.memories.remember_name.Goals as goal
 
 pub returns : goal.returns

@@ -2,7 +2,6 @@ use Rattle.index.proofs.MemoryLaws.{replaced_added, replaced_full}
 use Rattle.index.proofs.ChainLaws.{capacity_lt}
 use lib.ListN.{length}
 use native.Mathlib.Omega.{arith}
-use borrow.Author.Rules.{rules}
 use Rattle.index.proofs.memories.replace.Goals as goal
 
 pub overflow_add-result : goal.overflow_add-result

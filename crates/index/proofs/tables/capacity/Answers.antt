@@ -1,6 +1,5 @@
 use native.Mathlib.Omega.{arith}
 use Rattle.index.specs.Table.{capacity}
-use borrow.Author.Rules.{rules}
 use Rattle.index.proofs.tables.capacity.Goals as goal
 
 pub returns-then-quarter-lt4294967295 : goal.returns-then-quarter-lt4294967295

@@ -1,7 +1,5 @@
-use Prim.Native.Nat.{◌-◌}
-use Rattle.index.proofs.TableLaws.{Seeking, seek_start, seek_here, seek_less, seek_next, seek_end}
+use Rattle.index.proofs.TableLaws.{seek_start, seek_here, seek_less, seek_next, seek_end}
 use native.Mathlib.Omega.{arith}
-use borrow.Author.Rules.{rules}
 use Rattle.index.proofs.tables.find.Goals as goal
 
 pub returns-then-below-le-FEW : goal.returns-then-below-le-FEW

@@ -1,6 +1,4 @@
-use Prim.Native.Nat.{◌-◌}
-use Rattle.index.proofs.TableLaws.{Seeking, seek_start, seek_here, seek_less, seek_next, seek_end}
-use native.Mathlib.Omega.{arith}
+use Rattle.index.proofs.TableLaws.{Seeking}
 use Rattle.index.proofs.tables.find.Given as goal
 
 abbrev pub invariant-loop-i : goal.invariant-loop-i

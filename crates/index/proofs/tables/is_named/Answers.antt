@@ -1,5 +1,4 @@
 use Rattle.index.proofs.TableLaws.{named_not, named_same}
-use borrow.Author.Rules.{rules}
 use Rattle.index.proofs.tables.is_named.Goals as goal
 
 pub returns-then-below-i : goal.returns-then-below-i

@@ -1,5 +1,4 @@
 use Rattle.index.proofs.TableLaws.{name_read}
-use borrow.Author.Rules.{rules}
 use Rattle.index.proofs.tables.name_of.Goals as goal
 
 pub returns : goal.returns

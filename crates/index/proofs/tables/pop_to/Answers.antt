@@ -1,5 +1,4 @@
-use Rattle.index.proofs.StoreLaws.{Popping, popping_start, popping_next, popping_end}
-use borrow.Author.Rules.{rules}
+use Rattle.index.proofs.StoreLaws.{popping_start, popping_next, popping_end}
 use Rattle.index.proofs.tables.pop_to.Goals as goal
 
 pub loop-i-init : goal.loop-i-init

@@ -1,4 +1,4 @@
-use Rattle.index.proofs.StoreLaws.{Popping, popping_start, popping_next, popping_end}
+use Rattle.index.proofs.StoreLaws.{Popping}
 use Rattle.index.proofs.tables.pop_to.Given as goal
 
 abbrev pub invariant-loop-i : goal.invariant-loop-i

@@ -1,5 +1,4 @@
 use Rattle.index.proofs.StoreLaws.{push_added, push_full}
-use borrow.Author.Rules.{rules}
 use Rattle.index.proofs.tables.push.Goals as goal
 
 pub returns-then-size-used : goal.returns-then-size-used

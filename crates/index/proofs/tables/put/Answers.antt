@@ -3,7 +3,6 @@ use native.Mathlib.Omega.{arith}
 use mathlib.Core.Path.{ap}
 use lib.ListN.{length-set}
 use Rattle.index.proofs.ChainLaws.{added_put}
-use borrow.Author.Rules.{rules}
 use Rattle.index.proofs.tables.put.Goals as goal
 
 pub bounds-table-at-2 : goal.bounds-table-at-2

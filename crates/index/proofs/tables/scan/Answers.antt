@@ -1,6 +1,5 @@
 use native.Mathlib.Omega.{arith}
-use Rattle.index.proofs.ScanLaws.{Scanning, scan_start, scan_end, scan_here, scan_next}
-use borrow.Author.Rules.{rules}
+use Rattle.index.proofs.ScanLaws.{scan_start, scan_end, scan_here, scan_next}
 use Rattle.index.proofs.tables.scan.Goals as goal
 
 pub loop-i-init : goal.loop-i-init

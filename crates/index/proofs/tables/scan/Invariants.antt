@@ -1,5 +1,4 @@
-use native.Mathlib.Omega.{arith}
-use Rattle.index.proofs.ScanLaws.{Scanning, scan_start, scan_end, scan_here, scan_next}
+use Rattle.index.proofs.ScanLaws.{Scanning}
 use Rattle.index.proofs.tables.scan.Given as goal
 
 abbrev pub invariant-loop-i : goal.invariant-loop-i

@@ -1,6 +1,5 @@
 use Rattle.operators.specs.Operators.{onnx}
 use Rattle.operators.proofs.EntryLaws.{domain_onnx, domain_other}
-use borrow.Author.Rules.{rules}
 use Rattle.operators.proofs.domains.canonical.Goals as goal
 
 pub returns-then-same_bytes : goal.returns-then-same_bytes

@@ -1,6 +1,5 @@
 use mathlib.Core.Path.{ap₂, ◌∙◌}
 use Rattle.varint.specs.Bytes.{same}
-use borrow.Author.Rules.{rules}
 use Rattle.operators.proofs.domains.same_domain.Goals as goal
 
 pub returns : goal.returns

@@ -1,6 +1,5 @@
 use native.Mathlib.Omega.{arith}
 use Rattle.operators.specs.Operators.{after}
-use borrow.Author.Rules.{rules}
 use Rattle.operators.proofs.lists.after.Goals as goal
 
 pub returns : goal.returns

@@ -1,6 +1,5 @@
 use native.Mathlib.Omega.{arith}
 use Rattle.operators.proofs.SearchLaws.{entry_inside, allows_none, allows_below, allows_to}
-use borrow.Author.Rules.{rules}
 use Rattle.operators.proofs.lists.allows.Goals as goal
 
 pub returns-in_default : goal.returns-in_default

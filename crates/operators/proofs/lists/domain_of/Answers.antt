@@ -1,5 +1,4 @@
 use Rattle.operators.proofs.EntryLaws.{domain_is}
-use borrow.Author.Rules.{rules}
 use Rattle.operators.proofs.lists.domain_of.Goals as goal
 
 pub returns : goal.returns

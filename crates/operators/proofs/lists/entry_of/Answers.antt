@@ -1,7 +1,4 @@
-use Prim.Native.Nat.{◌-◌}
-use lib.ListN.{length}
-use Rattle.operators.proofs.SearchLaws.{Seeking, seek_start, seek_end, seek_here, seek_next}
-use borrow.Author.Rules.{rules}
+use Rattle.operators.proofs.SearchLaws.{seek_start, seek_end, seek_here, seek_next}
 use Rattle.operators.proofs.lists.entry_of.Goals as goal
 
 pub loop-at-init : goal.loop-at-init

@@ -1,6 +1,6 @@
 use Prim.Native.Nat.{◌-◌}
 use lib.ListN.{length}
-use Rattle.operators.proofs.SearchLaws.{Seeking, seek_start, seek_end, seek_here, seek_next}
+use Rattle.operators.proofs.SearchLaws.{Seeking}
 use Rattle.operators.proofs.lists.entry_of.Given as goal
 
 abbrev pub invariant-loop-at : goal.invariant-loop-at

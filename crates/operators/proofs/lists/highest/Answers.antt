@@ -1,5 +1,4 @@
 use Rattle.operators.proofs.EntryLaws.{highest_is}
-use borrow.Author.Rules.{rules}
 use Rattle.operators.proofs.lists.highest.Goals as goal
 
 pub returns : goal.returns

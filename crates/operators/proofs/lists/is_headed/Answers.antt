@@ -1,5 +1,4 @@
 use Rattle.operators.proofs.EntryLaws.{head_short, head_count, head_version}
-use borrow.Author.Rules.{rules}
 use Rattle.operators.proofs.lists.is_headed.Goals as goal
 
 pub returns-then-list-lt5 : goal.returns-then-list-lt5

@@ -1,8 +1,4 @@
-use Prim.Native.Nat.{◌-◌}
-use lib.ListN.{length}
-use borrow.Author.Tests.{not-true, not-false}
-use Rattle.operators.proofs.SearchLaws.{Judging, unheaded, judge_start, judge_end, judge_broken, judge_twice, judge_next}
-use borrow.Author.Rules.{rules}
+use Rattle.operators.proofs.SearchLaws.{unheaded, judge_start, judge_end, judge_broken, judge_twice, judge_next}
 use Rattle.operators.proofs.lists.is_sound.Goals as goal
 
 pub returns-then-not-is_headed : goal.returns-then-not-is_headed

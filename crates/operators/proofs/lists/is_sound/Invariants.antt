@@ -1,7 +1,6 @@
 use Prim.Native.Nat.{◌-◌}
 use lib.ListN.{length}
-use borrow.Author.Tests.{not-true, not-false}
-use Rattle.operators.proofs.SearchLaws.{Judging, unheaded, judge_start, judge_end, judge_broken, judge_twice, judge_next}
+use Rattle.operators.proofs.SearchLaws.{Judging}
 use Rattle.operators.proofs.lists.is_sound.Given as goal
 
 abbrev pub invariant-loop-at : goal.invariant-loop-at

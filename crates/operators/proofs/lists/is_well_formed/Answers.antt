@@ -1,5 +1,4 @@
 use Rattle.operators.proofs.EntryLaws.{rest_short, past_end, lowest_zero, versions_order}
-use borrow.Author.Rules.{rules}
 use Rattle.operators.proofs.lists.is_well_formed.Goals as goal
 
 pub returns-then-two-lt8 : goal.returns-then-two-lt8

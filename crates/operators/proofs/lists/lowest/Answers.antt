@@ -1,5 +1,4 @@
 use Rattle.operators.proofs.EntryLaws.{lowest_is}
-use borrow.Author.Rules.{rules}
 use Rattle.operators.proofs.lists.lowest.Goals as goal
 
 pub returns : goal.returns

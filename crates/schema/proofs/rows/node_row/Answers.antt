@@ -4,7 +4,6 @@ use Rattle.varint.proofs.Lists.{subset}
 use Rattle.schema.specs.declared.Kind.TheVariants.{Node}
 use Rattle.schema.specs.Rows.{Rows-computes}
 use Rattle.schema.proofs.RowLaws.{row_at, row_unknown, numbers}
-use borrow.Author.Rules.{rules}
 use Rattle.schema.proofs.rows.node_row.Goals as goal
 
 pub returns-in-1 : goal.returns-in-1

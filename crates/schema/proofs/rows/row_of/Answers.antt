@@ -1,6 +1,5 @@
 use Rattle.schema.specs.declared.Kind.TheVariants as kind
 use Rattle.schema.proofs.RowLaws.{row_by}
-use borrow.Author.Rules.{rules}
 use Rattle.schema.proofs.rows.row_of.Goals as goal
 
 pub returns-in-Model : goal.returns-in-Model

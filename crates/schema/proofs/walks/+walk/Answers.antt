@@ -1,9 +1,7 @@
-use Rattle.schema.proofs.WalkLaws.{Going, Tagged, Turned, going_start, walk_done, walk_tag, walk_tagged, walk_wire, walk_repeat, walk_value, walk_turned, turn_falls, inner_falls, walk_closed, walk_deep, walk_inner, walk_bad, deeper_low}
+use Rattle.schema.proofs.WalkLaws.{going_start, walk_done, walk_tag, walk_tagged, walk_wire, walk_repeat, walk_value, walk_turned, turn_falls, inner_falls, walk_closed, walk_deep, walk_inner, walk_bad, deeper_low}
 use Rattle.schema.proofs.SlotLaws.{slot_low}
 use Rattle.schema.specs.Answers.{walk_says}
 use mathlib.Core.Path.{◌∙◌}
-use borrow.Author.Tests.{not-true, not-false}
-use Prim.Native.Nat.{◌-◌, ℕ, ◌<◌}
 use Rattle.schema.proofs.walks.+walk.Goals as goal
 
 pub loop-kind-init : goal.loop-kind-init

@@ -1,7 +1,6 @@
 use mathlib.Core.Path.{refl}
 use Rattle.schema.specs.Answers.{content_says}
 use Rattle.schema.specs.Rows.{opened}
-use borrow.Author.Rules.{rules}
 use Rattle.schema.proofs.walks.content_by.Goals as goal
 
 pub returns-in-Message : goal.returns-in-Message

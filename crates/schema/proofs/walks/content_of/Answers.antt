@@ -2,7 +2,6 @@ use mathlib.Core.Path.{refl}
 use Rattle.schema.specs.Answers.{content_says}
 use Rattle.schema.specs.FirstWalk.{kind_of}
 use Rattle.schema.specs.Rows.{holds_of}
-use borrow.Author.Rules.{rules}
 use Rattle.schema.proofs.walks.content_of.Goals as goal
 
 pub returns-in-Once : goal.returns-in-Once

@@ -1,6 +1,5 @@
 use Rattle.schema.specs.FirstWalk.{deeper}
 use mathlib.Core.Path.{refl, sym, ◌∙◌}
-use borrow.Author.Rules.{rules}
 use Rattle.schema.proofs.walks.depth_in.Goals as goal
 
 pub returns-then-has_nodes : goal.returns-then-has_nodes

@@ -1,5 +1,4 @@
 use Rattle.schema.specs.FirstWalk.{first_walk}
-use borrow.Author.Rules.{rules}
 use Rattle.schema.proofs.walks.first_walk.Goals as goal
 
 pub returns : goal.returns

@@ -1,6 +1,5 @@
 use mathlib.Core.Path.{refl}
 use Rattle.schema.specs.Rows.{has_nodes}
-use borrow.Author.Rules.{rules}
 use Rattle.schema.proofs.walks.has_nodes.Goals as goal
 
 pub returns-in-Graph : goal.returns-in-Graph

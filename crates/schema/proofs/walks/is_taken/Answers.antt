@@ -1,6 +1,5 @@
 use borrow.Author.Tests.{lt-ltb, le-ltb}
 use Rattle.schema.specs.Answers.{taken_in}
-use borrow.Author.Rules.{rules}
 use Rattle.schema.proofs.walks.is_taken.Goals as goal
 
 pub returns-then-slot-lt-NO_SLOT : goal.returns-then-slot-lt-NO_SLOT

@@ -1,5 +1,4 @@
 use mathlib.Core.Path.{refl, sym, ◌∙◌}
-use borrow.Author.Rules.{rules}
 use Rattle.schema.proofs.walks.is_too_deep.Goals as goal
 
 pub returns-then-has_nodes : goal.returns-then-has_nodes

@@ -1,6 +1,5 @@
 use Rattle.schema.specs.Answers.{walk_says}
 use mathlib.Core.Path.{refl}
-use borrow.Author.Rules.{rules}
 use Rattle.schema.proofs.walks.refused.Goals as goal
 
 pub returns : goal.returns

@@ -2,7 +2,6 @@ use mathlib.Core.Path.{refl}
 use Rattle.schema.specs.Answers.{slot_index}
 use Rattle.schema.specs.FirstWalk.{slot_of}
 use native.Mathlib.Omega.{arith}
-use borrow.Author.Rules.{rules}
 use Rattle.schema.proofs.walks.slot_of.Goals as goal
 
 pub returns-then-number : goal.returns-then-number

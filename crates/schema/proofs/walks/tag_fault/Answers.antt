@@ -2,7 +2,6 @@ use mathlib.Core.Path.{refl}
 use Rattle.schema.specs.Answers.{walk_says, silent}
 use Rattle.wire.specs.Answers.{tag_says}
 use Rattle.varint.specs.Outcome.{◌>>=◌}
-use borrow.Author.Rules.{rules}
 use Rattle.schema.proofs.walks.tag_fault.Goals as goal
 
 pub returns-in-Refused : goal.returns-in-Refused

@@ -2,7 +2,6 @@ use Rattle.schema.proofs.WalkLaws.{fits_packed, fits_either}
 use Rattle.schema.specs.FirstWalk.{fits}
 use lib.Dec.{eqb}
 use mathlib.Core.Path.{refl, ap}
-use borrow.Author.Rules.{rules}
 use Rattle.schema.proofs.walks.wire_fits.Goals as goal
 
 pub returns-then-wire-wire_of : goal.returns-then-wire-wire_of

@@ -1,6 +1,5 @@
 use mathlib.Core.Path.{refl}
 use Rattle.schema.specs.FirstWalk.{wire_of}
-use borrow.Author.Rules.{rules}
 use Rattle.schema.proofs.walks.wire_of.Goals as goal
 
 pub returns-in-Varint : goal.returns-in-Varint

@@ -1,6 +1,5 @@
 use mathlib.Core.Path.{refl}
 use Rattle.spelling.specs.ByteClass.{ByteClass-computes}
-use borrow.Author.Rules.{rules}
 use Rattle.spelling.proofs.identifiers.identifier_part.Goals as goal
 
 -- The test over the whole table, computed.

@@ -2,7 +2,6 @@ use mathlib.Core.Path.{ap, ◌∙◌}
 use mathlib.Core.Bool.{not}
 use lib.Dec.{eqb}
 use Rattle.spelling.proofs.IdentifierLaws.{class_part}
-use borrow.Author.Rules.{rules}
 use Rattle.spelling.proofs.identifiers.is_identifier_byte.Goals as goal
 
 pub returns : goal.returns

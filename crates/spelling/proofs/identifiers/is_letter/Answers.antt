@@ -1,7 +1,6 @@
 use mathlib.Core.Path.{ap, ◌∙◌}
 use lib.Dec.{eqb}
 use Rattle.spelling.proofs.IdentifierLaws.{class_letter}
-use borrow.Author.Rules.{rules}
 use Rattle.spelling.proofs.identifiers.is_letter.Goals as goal
 
 pub returns : goal.returns

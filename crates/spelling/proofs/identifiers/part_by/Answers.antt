@@ -1,9 +1,5 @@
-use Prim.Native.Nat.{◌-◌}
 use native.Mathlib.Omega.{arith}
-use lib.ListN.{length}
-use borrow.Author.Tests.{not-true, not-false}
-use Rattle.spelling.proofs.IdentifierLaws.{Part, part_empty, part_none, part_start, part_stop, part_next, part_end}
-use borrow.Author.Rules.{rules}
+use Rattle.spelling.proofs.IdentifierLaws.{part_empty, part_none, part_start, part_stop, part_next, part_end}
 use Rattle.spelling.proofs.identifiers.part_by.Goals as goal
 
 pub returns-then-name-eq0 : goal.returns-then-name-eq0

@@ -1,6 +1,5 @@
 use Rattle.spelling.specs.Spelling.{spelling_says}
 use Rattle.spelling.proofs.SpellingLaws.{spelled_odd, spelled_not, spelled_empty, spelled_even}
-use borrow.Author.Rules.{rules}
 use Rattle.spelling.proofs.spellings.spell.Goals as goal
 
 pub returns-then-is_well_formed : goal.returns-then-is_well_formed

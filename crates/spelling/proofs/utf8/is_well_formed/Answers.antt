@@ -1,11 +1,8 @@
-use Prim.Native.Nat.{◌-◌}
 use mathlib.Core.Path.{ap}
-use lib.ListN.{length, drop}
-use Rattle.spelling.specs.Utf8.{well_formed, ahead}
+use Rattle.spelling.specs.Utf8.{ahead}
 use Rattle.spelling.specs.Spelling.{lead_says}
-use Rattle.spelling.proofs.Utf8Reading.{Reading, reading_start, reading_end, reading_ascii, reading_no_lead, reading_lead}
+use Rattle.spelling.proofs.Utf8Reading.{reading_start, reading_end, reading_ascii, reading_no_lead, reading_lead}
 use Rattle.spelling.proofs.Utf8Reading.{reading_below, reading_above, reading_tail}
-use borrow.Author.Rules.{rules}
 use Rattle.spelling.proofs.utf8.is_well_formed.Goals as goal
 
 pub loop-i-init : goal.loop-i-init

@@ -2,7 +2,6 @@ use native.Mathlib.Omega.{arith}
 use Rattle.spelling.specs.Utf8.{ahead, leads}
 use Rattle.spelling.specs.Spelling.{lead_says}
 use Rattle.spelling.proofs.Utf8Rows.{lead_row, no_row}
-use borrow.Author.Rules.{rules}
 use Rattle.spelling.proofs.utf8.lead_of.Goals as goal
 
 pub returns-in-224 : goal.returns-in-224

@@ -1,5 +1,4 @@
 use Rattle.varint.proofs.SliceLaws.{part_cut}
-use borrow.Author.Rules.{rules}
 use Rattle.varint.proofs.slices.between.Goals as goal
 
 pub returns : goal.returns

@@ -1,10 +1,5 @@
 use Rattle.varint.proofs.SliceLaws.{same_length, compare_end, compare_differ, compare_next}
-use Rattle.varint.specs.Words.{Comparing}
-use borrow.Author.Tests.{not-true, not-false}
-use Prim.Native.Nat.{◌-◌}
-use lib.ListN.{length}
 use native.Mathlib.Omega.{arith}
-use borrow.Author.Rules.{rules}
 use Rattle.varint.proofs.slices.same_bytes.Goals as goal
 
 pub returns-then-a-b : goal.returns-then-a-b

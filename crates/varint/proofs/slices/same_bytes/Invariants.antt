@@ -1,9 +1,6 @@
-use Rattle.varint.proofs.SliceLaws.{same_length, compare_end, compare_differ, compare_next}
 use Rattle.varint.specs.Words.{Comparing}
-use borrow.Author.Tests.{not-true, not-false}
 use Prim.Native.Nat.{◌-◌}
 use lib.ListN.{length}
-use native.Mathlib.Omega.{arith}
 use Rattle.varint.proofs.slices.same_bytes.Given as goal
 
 abbrev pub invariant-loop-i : goal.invariant-loop-i

@@ -1,8 +1,6 @@
-use Rattle.varint.proofs.SliceLaws.{Striding, stride_start, stride_room, stride_on, stride_end, stride_differs}
-use Prim.Native.Nat.{◌-◌}
+use Rattle.varint.proofs.SliceLaws.{stride_start, stride_room, stride_on, stride_end, stride_differs}
 use mathlib.Core.Path.{refl}
 use native.Mathlib.Omega.{arith}
-use borrow.Author.Rules.{rules}
 use Rattle.varint.proofs.slices.same_eights.Goals as goal
 
 pub loop-i-init : goal.loop-i-init

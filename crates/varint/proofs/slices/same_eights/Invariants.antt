@@ -1,7 +1,5 @@
-use Rattle.varint.proofs.SliceLaws.{Striding, stride_start, stride_room, stride_on, stride_end, stride_differs}
+use Rattle.varint.proofs.SliceLaws.{Striding}
 use Prim.Native.Nat.{◌-◌}
-use mathlib.Core.Path.{refl}
-use native.Mathlib.Omega.{arith}
 use Rattle.varint.proofs.slices.same_eights.Given as goal
 
 abbrev pub invariant-loop-i : goal.invariant-loop-i

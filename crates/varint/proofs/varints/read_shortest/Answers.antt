@@ -1,7 +1,6 @@
 use mathlib.Core.Path.{◌∙◌}
 use Rattle.varint.specs.Answers.{varint_says}
 use Rattle.varint.proofs.ShortestLaws.{shortest_refused, shortest_padded, shortest_read}
-use borrow.Author.Rules.{rules}
 use Rattle.varint.proofs.varints.read_shortest.Goals as goal
 
 pub returns-in_default : goal.returns-in_default

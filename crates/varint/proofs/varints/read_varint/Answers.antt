@@ -2,8 +2,7 @@ use Prim.Native.Nat.{◌-◌}
 use native.Mathlib.Omega.{arith}
 use mathlib.Core.Path.{◌∙◌}
 use Rattle.varint.specs.Answers.{varint_says}
-use Rattle.varint.proofs.VarintLaws.{reading_start, turn_past, one_byte, Going, go_start, go_scale, go_small, go_last, go_more, go_past, go_fits, go_tenth, go_end}
-use borrow.Author.Rules.{rules}
+use Rattle.varint.proofs.VarintLaws.{reading_start, turn_past, one_byte, go_start, go_scale, go_small, go_last, go_more, go_past, go_fits, go_tenth, go_end}
 use Rattle.varint.proofs.varints.read_varint.Goals as goal
 
 pub returns-then-end-from : goal.returns-then-end-from

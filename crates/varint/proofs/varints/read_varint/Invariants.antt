@@ -1,8 +1,5 @@
 use Prim.Native.Nat.{◌-◌}
-use native.Mathlib.Omega.{arith}
-use mathlib.Core.Path.{◌∙◌}
-use Rattle.varint.specs.Answers.{varint_says}
-use Rattle.varint.proofs.VarintLaws.{reading_start, turn_past, one_byte, Going, go_start, go_scale, go_small, go_last, go_more, go_past, go_fits, go_tenth, go_end}
+use Rattle.varint.proofs.VarintLaws.{Going}
 use Rattle.varint.proofs.varints.read_varint.Given as goal
 
 abbrev pub invariant-loop-pos : goal.invariant-loop-pos

@@ -1,6 +1,5 @@
 use mathlib.Core.Path.{refl}
 use Rattle.varint.specs.Answers.{varint_says}
-use borrow.Author.Rules.{rules}
 use Rattle.varint.proofs.varints.refused.Goals as goal
 
 pub returns : goal.returns

@@ -2,7 +2,6 @@ use Rattle.wire.proofs.QuickLaws.{value_answer}
 use Rattle.wire.proofs.CursorLaws.{field_refused, field_read}
 use Rattle.wire.specs.Answers.{field_says}
 use mathlib.Core.Path.{◌∙◌}
-use borrow.Author.Rules.{rules}
 use Rattle.wire.proofs.Cursor.any_field.Goals as goal
 
 pub returns-then-f-gt0 : goal.returns-then-f-gt0

@@ -1,7 +1,6 @@
 use Rattle.wire.specs.Answers.{tag_says}
 use mathlib.Core.Path.{sym, ◌∙◌}
 use Rattle.wire.proofs.CursorLaws.{tag_refused, tag_bad, tag_read}
-use borrow.Author.Rules.{rules}
 use Rattle.wire.proofs.Cursor.any_tag.Goals as goal
 
 pub returns-then-is_bad_tag : goal.returns-then-is_bad_tag

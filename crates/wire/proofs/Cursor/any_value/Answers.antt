@@ -1,7 +1,6 @@
 use Rattle.wire.specs.Answers.{field_says}
 use mathlib.Core.Path.{◌∙◌}
 use Rattle.wire.proofs.CursorLaws.{number_refused, number_read, length_refused, length_read, eight_read, four_read}
-use borrow.Author.Rules.{rules}
 use Rattle.wire.proofs.Cursor.any_value.Goals as goal
 
 pub returns-in-Refused : goal.returns-in-Refused

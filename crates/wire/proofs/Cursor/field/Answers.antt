@@ -2,7 +2,6 @@ use Rattle.wire.proofs.ShortLaws.{short_answer}
 use Rattle.varint.proofs.Answers.{says}
 use Rattle.wire.specs.Answers.{field_says}
 use native.Mathlib.Omega.{arith}
-use borrow.Author.Rules.{rules}
 use Rattle.wire.proofs.Cursor.field.Goals as goal
 
 pub returns-in-Refused : goal.returns-in-Refused

@@ -1,9 +1,7 @@
 use Rattle.wire.proofs.QuickLaws.{quick_answer, long_value}
-use Rattle.wire.proofs.CursorLaws.{Seeking, seek_start, seek_done, seek_stop, seek_found, seek_next, seek_falls, seek_on}
+use Rattle.wire.proofs.CursorLaws.{seek_start, seek_done, seek_stop, seek_found, seek_next, seek_falls, seek_on}
 use Rattle.wire.specs.Answers.{sought_says}
-use Prim.Native.Nat.{◌-◌}
 use mathlib.Core.Path.{refl}
-use borrow.Author.Rules.{rules}
 use Rattle.wire.proofs.Cursor.next_of.Goals as goal
 
 pub loop-at-init : goal.loop-at-init

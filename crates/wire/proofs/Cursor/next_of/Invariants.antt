@@ -1,8 +1,5 @@
-use Rattle.wire.proofs.QuickLaws.{quick_answer, long_value}
-use Rattle.wire.proofs.CursorLaws.{Seeking, seek_start, seek_done, seek_stop, seek_found, seek_next, seek_falls, seek_on}
-use Rattle.wire.specs.Answers.{sought_says}
+use Rattle.wire.proofs.CursorLaws.{Seeking}
 use Prim.Native.Nat.{◌-◌}
-use mathlib.Core.Path.{refl}
 use Rattle.wire.proofs.Cursor.next_of.Given as goal
 
 abbrev pub invariant-loop-at : goal.invariant-loop-at

@@ -1,6 +1,5 @@
 use Rattle.wire.proofs.QuickLaws.{quick_answer}
 use native.Mathlib.Omega.{arith}
-use borrow.Author.Rules.{rules}
 use Rattle.wire.proofs.Cursor.quick_field.Goals as goal
 
 pub returns : goal.returns

@@ -1,6 +1,5 @@
 use Rattle.wire.specs.Answers.{tag_says}
 use mathlib.Core.Path.{sym, ◌∙◌}
-use borrow.Author.Rules.{rules}
 use Rattle.wire.proofs.Cursor.tag.Goals as goal
 
 pub returns-then-is_wire : goal.returns-then-is_wire

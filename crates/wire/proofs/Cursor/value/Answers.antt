@@ -1,7 +1,6 @@
 use Rattle.wire.proofs.QuickLaws.{value_answer, long_answer}
 use Rattle.varint.proofs.Answers.{says}
 use Rattle.wire.specs.Answers.{field_says}
-use borrow.Author.Rules.{rules}
 use Rattle.wire.proofs.Cursor.value.Goals as goal
 
 pub returns-then-quick-gt0 : goal.returns-then-quick-gt0

@@ -1,7 +1,6 @@
 use mathlib.Core.Path.{◌∙◌}
 use Rattle.wire.proofs.MessageLaws.{bytes_found, bytes_missing}
 use Rattle.varint.specs.Bytes.{part}
-use borrow.Author.Rules.{rules}
 use Rattle.wire.proofs.Field.bytes_of.Goals as goal
 
 pub returns-in-Found : goal.returns-in-Found

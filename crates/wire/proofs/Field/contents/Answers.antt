@@ -1,6 +1,5 @@
 use mathlib.Core.Path.{refl}
 use Rattle.wire.specs.Answers.{contents_of}
-use borrow.Author.Rules.{rules}
 use Rattle.wire.proofs.Field.contents.Goals as goal
 
 pub returns : goal.returns

@@ -1,5 +1,4 @@
 use Rattle.wire.proofs.MessageLaws.{found_first}
-use borrow.Author.Rules.{rules}
 use Rattle.wire.proofs.Field.first_of.Goals as goal
 
 pub returns : goal.returns

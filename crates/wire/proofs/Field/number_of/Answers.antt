@@ -1,6 +1,5 @@
 use mathlib.Core.Path.{◌∙◌}
 use Rattle.wire.proofs.MessageLaws.{number_in}
-use borrow.Author.Rules.{rules}
 use Rattle.wire.proofs.Field.number_of.Goals as goal
 
 pub returns : goal.returns

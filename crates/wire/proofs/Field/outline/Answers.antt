@@ -1,9 +1,7 @@
-use Prim.Native.Nat.{◌-◌}
 use mathlib.Core.Path.{ap}
 use Rattle.wire.specs.Answers.{contents_of}
 use Rattle.wire.specs.declared.Cursor.{Cursor}
-use Rattle.wire.proofs.OutlineLaws.{Marks, marks_start, marks_end, marks_stop, marks_falls, marks_next}
-use borrow.Author.Rules.{rules}
+use Rattle.wire.proofs.OutlineLaws.{marks_start, marks_end, marks_stop, marks_falls, marks_next}
 use Rattle.wire.proofs.Field.outline.Goals as goal
 
 pub loop-here-init : goal.loop-here-init

@@ -1,8 +1,5 @@
 use Prim.Native.Nat.{◌-◌}
-use mathlib.Core.Path.{ap}
-use Rattle.wire.specs.Answers.{contents_of}
-use Rattle.wire.specs.declared.Cursor.{Cursor}
-use Rattle.wire.proofs.OutlineLaws.{Marks, marks_start, marks_end, marks_stop, marks_falls, marks_next}
+use Rattle.wire.proofs.OutlineLaws.{Marks}
 use Rattle.wire.proofs.Field.outline.Given as goal
 
 abbrev pub invariant-loop-here : goal.invariant-loop-here

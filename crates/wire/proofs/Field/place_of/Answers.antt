@@ -1,5 +1,4 @@
 use Rattle.wire.proofs.MessageLaws.{place_found, place_missing}
-use borrow.Author.Rules.{rules}
 use Rattle.wire.proofs.Field.place_of.Goals as goal
 
 pub returns-in-Found : goal.returns-in-Found

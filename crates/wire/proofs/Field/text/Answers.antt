@@ -1,5 +1,4 @@
 use Rattle.wire.specs.Message.{text}
-use borrow.Author.Rules.{rules}
 use Rattle.wire.proofs.Field.text.Goals as goal
 
 pub returns : goal.returns

@@ -1,6 +1,5 @@
 use mathlib.Core.Path.{sym, ap}
 use Rattle.wire.specs.Answers.{value_in}
-use borrow.Author.Rules.{rules}
 use Rattle.wire.proofs.Sought.value.Goals as goal
 
 pub returns-in-Found : goal.returns-in-Found

@@ -2,7 +2,6 @@ use borrow.Author.Tests.{eq-eqb, ne_eqb, le-leb, lt-leb}
 use Rattle.wire.specs.Wire.{bad_tag}
 use Rattle.varint.specs.Lists.{contains}
 use Rattle.wire.proofs.CursorLaws.{bad_other}
-use borrow.Author.Rules.{rules}
 use Rattle.wire.proofs.cursors.is_bad_tag.Goals as goal
 
 pub returns-then-t-ge4294967296 : goal.returns-then-t-ge4294967296

@@ -1,7 +1,6 @@
 use Rattle.wire.proofs.QuickLaws.{no_other_wire}
 use Rattle.varint.specs.Lists.{contains}
 use borrow.Author.Tests.{eq-eqb, ne_eqb}
-use borrow.Author.Rules.{rules}
 use Rattle.wire.proofs.cursors.is_wire.Goals as goal
 
 pub returns-then-wire-eq-VARINT : goal.returns-then-wire-eq-VARINT

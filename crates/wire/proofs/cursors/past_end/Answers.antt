@@ -1,6 +1,5 @@
 use mathlib.Core.Path.{refl}
 use Rattle.wire.specs.Answers.{field_says}
-use borrow.Author.Rules.{rules}
 use Rattle.wire.proofs.cursors.past_end.Goals as goal
 
 pub returns : goal.returns

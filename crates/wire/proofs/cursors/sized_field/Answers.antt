@@ -2,7 +2,6 @@ use Rattle.wire.specs.Answers.{field_says, after}
 use native.Mathlib.Omega.{arith}
 use mathlib.Core.Path.{◌∙◌}
 use Rattle.wire.proofs.CursorLaws.{sized_past, sized_in}
-use borrow.Author.Rules.{rules}
 use Rattle.wire.proofs.cursors.sized_field.Goals as goal
 
 pub returns-then-end-start : goal.returns-then-end-start

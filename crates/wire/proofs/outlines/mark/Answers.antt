@@ -1,5 +1,4 @@
 use Rattle.wire.proofs.OutlineLaws.{marked_set, marked_here, marked_not}
-use borrow.Author.Rules.{rules}
 use Rattle.wire.proofs.outlines.mark.Goals as goal
 
 pub returns-then-met-end : goal.returns-then-met-end

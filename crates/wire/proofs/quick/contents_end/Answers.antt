@@ -1,6 +1,5 @@
 use mathlib.Core.Path.{refl}
 use native.Mathlib.Omega.{arith}
-use borrow.Author.Rules.{rules}
 use Rattle.wire.proofs.quick.contents_end.Goals as goal
 
 pub returns-then-n-eq0 : goal.returns-then-n-eq0

@@ -1,6 +1,5 @@
 use mathlib.Core.Path.{refl}
 use native.Mathlib.Omega.{arith}
-use borrow.Author.Rules.{rules}
 use Rattle.wire.proofs.quick.fixed_end.Goals as goal
 
 pub returns-then-size-eq0 : goal.returns-then-size-eq0

@@ -1,6 +1,5 @@
 use Rattle.wire.proofs.QuickLaws.{fixed_four, fixed_eight}
 use native.Mathlib.Omega.{arith}
-use borrow.Author.Rules.{rules}
 use Rattle.wire.proofs.quick.fixed_size.Goals as goal
 
 pub returns-then-wire-eq-I32 : goal.returns-then-wire-eq-I32

@@ -1,5 +1,4 @@
 use native.Mathlib.Omega.{arith}
-use borrow.Author.Rules.{rules}
 use Rattle.wire.proofs.quick.long_end.Goals as goal
 
 pub returns-then-t-ne-VARINT : goal.returns-then-t-ne-VARINT

@@ -1,5 +1,4 @@
 use Rattle.wire.proofs.QuickLaws.{number_of_read, number_of_refused}
-use borrow.Author.Rules.{rules}
 use Rattle.wire.proofs.quick.number_at.Goals as goal
 
 pub returns-in-Read : goal.returns-in-Read

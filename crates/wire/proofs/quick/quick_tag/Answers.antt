@@ -1,6 +1,5 @@
 use Rattle.wire.proofs.QuickLaws.{quick_tag}
 use native.Mathlib.Omega.{arith}
-use borrow.Author.Rules.{rules}
 use Rattle.wire.proofs.quick.quick_tag.Goals as goal
 
 pub returns-then-t-eq0 : goal.returns-then-t-eq0

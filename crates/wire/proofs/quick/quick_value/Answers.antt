@@ -1,5 +1,4 @@
 use Rattle.wire.proofs.QuickLaws.{few_inside, ends_there, quick_number, quick_length, quick_fixed}
-use borrow.Author.Rules.{rules}
 use Rattle.wire.proofs.quick.quick_value.Goals as goal
 
 pub contents_end-requires : goal.contents_end-requires

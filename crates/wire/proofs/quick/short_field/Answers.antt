@@ -1,6 +1,5 @@
 use Rattle.wire.proofs.ShortLaws.{field_said}
 use Rattle.varint.specs.Bytes.{byte}
-use borrow.Author.Rules.{rules}
 use Rattle.wire.proofs.quick.short_field.Goals as goal
 
 pub returns : goal.returns

@@ -1,7 +1,6 @@
 use Rattle.wire.proofs.ShortLaws.{short_number, short_length}
 use Rattle.varint.specs.Bytes.{byte}
 use native.Mathlib.Omega.{arith}
-use borrow.Author.Rules.{rules}
 use Rattle.wire.proofs.quick.short_size.Goals as goal
 
 pub returns-then-end-at : goal.returns-then-end-at

@@ -1,5 +1,4 @@
 use Rattle.wire.proofs.ShortLaws.{value_number, value_other}
-use borrow.Author.Rules.{rules}
 use Rattle.wire.proofs.quick.short_value.Goals as goal
 
 pub returns-then-t-eq-VARINT : goal.returns-then-t-eq-VARINT

@@ -1,7 +1,6 @@
 use Rattle.wire.proofs.QuickLaws.{few_one, few_two, few_three}
 use Rattle.varint.specs.Bytes.{byte}
 use native.Mathlib.Omega.{arith}
-use borrow.Author.Rules.{rules}
 use Rattle.wire.proofs.shorts.few_bytes.Goals as goal
 
 pub returns-then-end-at : goal.returns-then-end-at

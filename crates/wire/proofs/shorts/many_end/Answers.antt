@@ -1,8 +1,6 @@
-use Rattle.wire.proofs.QuickLaws.{Skipping, skip_start, skip_more, skip_last, skip_tenth}
+use Rattle.wire.proofs.QuickLaws.{skip_start, skip_more, skip_last, skip_tenth}
 use Rattle.varint.specs.Bytes.{byte}
 use native.Mathlib.Omega.{arith}
-use Prim.Native.Nat.{◌-◌}
-use borrow.Author.Rules.{rules}
 use Rattle.wire.proofs.shorts.many_end.Goals as goal
 
 pub returns-then-s-end : goal.returns-then-s-end

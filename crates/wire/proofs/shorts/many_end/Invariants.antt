@@ -1,6 +1,4 @@
-use Rattle.wire.proofs.QuickLaws.{Skipping, skip_start, skip_more, skip_last, skip_tenth}
-use Rattle.varint.specs.Bytes.{byte}
-use native.Mathlib.Omega.{arith}
+use Rattle.wire.proofs.QuickLaws.{Skipping}
 use Prim.Native.Nat.{◌-◌}
 use Rattle.wire.proofs.shorts.many_end.Given as goal
 

@@ -1,7 +1,6 @@
 use native.Mathlib.Omega.{arith}
 use borrow.Author.Tests.{not-true, not-false}
 use Rattle.index.proofs.ListingLaws.{added_none, added_full, added_more}
-use borrow.Author.Rules.{rules}
 use Rattle.index.proofs.listings.Listing.add.Goals as goal
 
 pub returns-then-not-self : goal.returns-then-not-self
