@@ -1,12 +1,6 @@
-use Prim.Native.Nat.{◌-◌}
 use mathlib.Core.Path.{refl, ap, ◌∙◌}
-use mathlib.Core.List.{map}
-use Rattle.varint.specs.Bytes.{same, member}
-use Rattle.wire.specs.Message.{bytes_of, message}
-use Rattle.wire.proofs.Along.{all_from}
-use Rattle.headers.specs.Earlier.{before}
-use Rattle.headers.proofs.EarlierLaws.{Rereading, reread_all, reread_done, reread_past, reread_here, reread_next, reread_falls}
-use borrow.Author.Rules.{rules}
+use Rattle.varint.specs.Bytes.{same}
+use Rattle.headers.proofs.EarlierLaws.{reread_all, reread_done, reread_past, reread_here, reread_next, reread_falls}
 use Rattle.headers.proofs.earlier.is_earlier.Goals as goal
 
 pub loop-f-init : goal.loop-f-init

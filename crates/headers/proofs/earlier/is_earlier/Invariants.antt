@@ -1,11 +1,10 @@
 use Prim.Native.Nat.{◌-◌}
-use mathlib.Core.Path.{refl, ap, ◌∙◌}
 use mathlib.Core.List.{map}
-use Rattle.varint.specs.Bytes.{same, member}
+use Rattle.varint.specs.Bytes.{member}
 use Rattle.wire.specs.Message.{bytes_of, message}
 use Rattle.wire.proofs.Along.{all_from}
 use Rattle.headers.specs.Earlier.{before}
-use Rattle.headers.proofs.EarlierLaws.{Rereading, reread_all, reread_done, reread_past, reread_here, reread_next, reread_falls}
+use Rattle.headers.proofs.EarlierLaws.{Rereading}
 use Rattle.headers.proofs.earlier.is_earlier.Given as goal
 
 abbrev pub invariant-loop-f : goal.invariant-loop-f

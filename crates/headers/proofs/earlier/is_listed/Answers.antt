@@ -1,5 +1,4 @@
 use mathlib.Core.Path.{◌∙◌}
-use borrow.Author.Rules.{rules}
 use Rattle.headers.proofs.earlier.is_listed.Goals as goal
 
 pub has-requires : goal.has-requires

@@ -1,7 +1,6 @@
 use Rattle.headers.proofs.ListedLaws.{absent_empty, text_empty, added_as}
 use Rattle.index.proofs.ListingLaws.{added_empty}
 use Rattle.wire.proofs.MessageLaws.{bytes_missing, bytes_found}
-use borrow.Author.Rules.{rules}
 use Rattle.headers.proofs.earlier.list_name.Goals as goal
 
 pub returns-in_default : goal.returns-in_default

@@ -1,9 +1,8 @@
 use native.Mathlib.Omega.{arith}
 use mathlib.Core.Path.{◌∙◌}
-use borrow.Author.Tests.{not-true, not-false}
+use borrow.Author.Tests.{not-false}
 use Rattle.index.proofs.ListingLaws.{held_all}
 use Rattle.headers.proofs.HeaderLaws.{header_version, header_graph, header_import, header_imported}
-use borrow.Author.Rules.{rules}
 use Rattle.headers.proofs.headers.header.Goals as goal
 
 pub returns-then-not-is_ir_version : goal.returns-then-not-is_ir_version

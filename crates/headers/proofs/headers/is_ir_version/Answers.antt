@@ -1,5 +1,4 @@
 use Rattle.headers.proofs.HeaderLaws.{version_below, version_rest}
-use borrow.Author.Rules.{rules}
 use Rattle.headers.proofs.headers.is_ir_version.Goals as goal
 
 pub returns-then-version-lt3 : goal.returns-then-version-lt3

@@ -1,7 +1,6 @@
 use mathlib.Core.Path.{refl}
 use Rattle.values.specs.Answers.{ruling_says}
 use Rattle.headers.specs.Imported.{ruling_of, holds}
-use borrow.Author.Rules.{rules}
 use Rattle.headers.proofs.headers.unheaded.Goals as goal
 
 pub returns : goal.returns

@@ -1,6 +1,5 @@
 use mathlib.Core.Path.{sym, ap}
 use Rattle.headers.specs.Imported.{headed}
-use borrow.Author.Rules.{rules}
 use Rattle.headers.proofs.imports.headed.Goals as goal
 
 pub returns-in-Kept : goal.returns-in-Kept

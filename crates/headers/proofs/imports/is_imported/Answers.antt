@@ -1,5 +1,4 @@
 use Rattle.headers.proofs.ListedLaws.{imported_default, imported_named}
-use borrow.Author.Rules.{rules}
 use Rattle.headers.proofs.imports.is_imported.Goals as goal
 
 pub returns-then-name-eq0 : goal.returns-then-name-eq0

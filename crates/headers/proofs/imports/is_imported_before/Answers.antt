@@ -1,14 +1,6 @@
-use Prim.Native.Nat.{◌-◌}
 use mathlib.Core.Path.{refl, ◌∙◌}
-use mathlib.Core.List.{map}
-use Rattle.varint.specs.Bytes.{member}
-use Rattle.operators.specs.Operators.{domain}
-use Rattle.wire.proofs.Along.{all_from}
-use Rattle.headers.specs.Earlier.{before}
-use Rattle.headers.specs.Imports.{import_of}
-use Rattle.headers.proofs.EarlierLaws.{Rereading, reread_done, reread_past, reread_here, reread_next, reread_falls}
+use Rattle.headers.proofs.EarlierLaws.{reread_done, reread_past, reread_here, reread_next, reread_falls}
 use Rattle.headers.proofs.ImportLaws.{imports_again, same_import}
-use borrow.Author.Rules.{rules}
 use Rattle.headers.proofs.imports.is_imported_before.Goals as goal
 
 pub loop-f-init : goal.loop-f-init

@@ -1,13 +1,11 @@
 use Prim.Native.Nat.{◌-◌}
-use mathlib.Core.Path.{refl, ◌∙◌}
 use mathlib.Core.List.{map}
 use Rattle.varint.specs.Bytes.{member}
 use Rattle.operators.specs.Operators.{domain}
 use Rattle.wire.proofs.Along.{all_from}
 use Rattle.headers.specs.Earlier.{before}
 use Rattle.headers.specs.Imports.{import_of}
-use Rattle.headers.proofs.EarlierLaws.{Rereading, reread_done, reread_past, reread_here, reread_next, reread_falls}
-use Rattle.headers.proofs.ImportLaws.{imports_again, same_import}
+use Rattle.headers.proofs.EarlierLaws.{Rereading}
 use Rattle.headers.proofs.imports.is_imported_before.Given as goal
 
 abbrev pub invariant-loop-f : goal.invariant-loop-f

@@ -1,5 +1,4 @@
 use Rattle.headers.proofs.ListedLaws.{import_default, import_named}
-use borrow.Author.Rules.{rules}
 use Rattle.headers.proofs.imports.list_import.Goals as goal
 
 pub returns-then-name-eq0 : goal.returns-then-name-eq0

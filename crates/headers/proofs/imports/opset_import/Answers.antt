@@ -1,8 +1,6 @@
 use mathlib.Core.Path.{◌∙◌}
-use borrow.Author.Tests.{not-true, not-false}
 use Rattle.values.specs.Answers.{ruling_says}
 use Rattle.headers.proofs.ImportLaws.{import_twice, import_unlisted, import_kept}
-use borrow.Author.Rules.{rules}
 use Rattle.headers.proofs.imports.opset_import.Goals as goal
 
 pub returns-then-is_imported : goal.returns-then-is_imported

@@ -1,10 +1,8 @@
 use Rattle.headers.proofs.HeaderLaws.{headed_same, headed_holds}
-use Prim.Native.Nat.{◌-◌}
 use mathlib.Core.Path.{ap, ◌∙◌}
 use Rattle.values.specs.Answers.{ruling_says}
-use Rattle.headers.specs.Imported.{ruling_of, headed, holds}
-use Rattle.headers.proofs.ImportLaws.{import_falls, importing_end, importing_stops, Keeping, keeping_start, keeping_end, keeping_before, keeping_goes}
-use borrow.Author.Rules.{rules}
+use Rattle.headers.specs.Imported.{ruling_of, holds}
+use Rattle.headers.proofs.ImportLaws.{import_falls, importing_end, importing_stops, keeping_start, keeping_end, keeping_before, keeping_goes}
 use Rattle.headers.proofs.imports.opset_imports.Goals as goal
 
 pub loop-f-init : goal.loop-f-init

@@ -1,6 +1,5 @@
 use mathlib.Core.Path.{sym, ap}
 use Rattle.headers.specs.Imported.{ruling_of}
-use borrow.Author.Rules.{rules}
 use Rattle.headers.proofs.imports.ruling_of.Goals as goal
 
 pub returns-in-Imported : goal.returns-in-Imported

@@ -1,7 +1,6 @@
 use Rattle.wire.proofs.OutlineLaws.{started_first}
 use Rattle.wire.proofs.MessageLaws.{missing, found}
 use Rattle.headers.proofs.HeaderLaws.{has_none, has_some}
-use borrow.Author.Rules.{rules}
 use Rattle.headers.proofs.wholes.has_from.Goals as goal
 
 pub returns-in-Found : goal.returns-in-Found

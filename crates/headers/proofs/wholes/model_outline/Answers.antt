@@ -1,5 +1,4 @@
 use Rattle.headers.proofs.HeaderLaws.{outlined}
-use borrow.Author.Rules.{rules}
 use Rattle.headers.proofs.wholes.model_outline.Goals as goal
 
 pub returns : goal.returns

@@ -1,7 +1,6 @@
 use mathlib.Core.Path.{◌∙◌}
 use Rattle.wire.proofs.OutlineLaws.{started_first}
 use Rattle.wire.proofs.MessageLaws.{number_in}
-use borrow.Author.Rules.{rules}
 use Rattle.headers.proofs.wholes.number_from.Goals as goal
 
 pub returns : goal.returns

@@ -1,6 +1,5 @@
 use mathlib.Core.Path.{refl}
 use Rattle.wire.specs.Message.{whole}
-use borrow.Author.Rules.{rules}
 use Rattle.headers.proofs.wholes.whole.Goals as goal
 
 pub returns : goal.returns

@@ -3,7 +3,6 @@ use Rattle.varint.specs.Lists.{contains, lookup}
 use Rattle.varint.proofs.Lists.{subset}
 use Rattle.rules.specs.Node.{carriers}
 use Rattle.values.proofs.CarrierLaws.{carrier_at, carrier_none}
-use borrow.Author.Rules.{rules}
 use Rattle.values.proofs.carriers.carrier_of.Goals as goal
 
 pub returns-in-1 : goal.returns-in-1

@@ -1,7 +1,5 @@
-use Prim.Native.Nat.{◌-◌}
 use mathlib.Core.Path.{◌∙◌}
-use Rattle.values.proofs.CarrierLaws.{look_all, Looking, look_start, look_done, look_stop, look_here, look_next, look_falls}
-use borrow.Author.Rules.{rules}
+use Rattle.values.proofs.CarrierLaws.{look_all, look_start, look_done, look_stop, look_here, look_next, look_falls}
 use Rattle.values.proofs.carriers.has_foreign.Goals as goal
 
 pub loop-c-init : goal.loop-c-init

@@ -1,6 +1,5 @@
 use Prim.Native.Nat.{◌-◌}
-use mathlib.Core.Path.{◌∙◌}
-use Rattle.values.proofs.CarrierLaws.{look_all, Looking, look_start, look_done, look_stop, look_here, look_next, look_falls}
+use Rattle.values.proofs.CarrierLaws.{Looking}
 use Rattle.values.proofs.carriers.has_foreign.Given as goal
 
 abbrev pub invariant-loop-c : goal.invariant-loop-c

@@ -1,6 +1,5 @@
 use Rattle.varint.specs.Lists.{contains}
 use Rattle.values.proofs.CarrierLaws.{default_graph, default_other}
-use borrow.Author.Rules.{rules}
 use Rattle.values.proofs.carriers.is_bad_default.Goals as goal
 
 pub returns-in-5 : goal.returns-in-5

@@ -1,5 +1,4 @@
 use Rattle.values.proofs.CarrierLaws.{reference_untyped, reference_typed}
-use borrow.Author.Rules.{rules}
 use Rattle.values.proofs.carriers.is_bad_reference.Goals as goal
 
 pub returns-then-carrier_of-eq0 : goal.returns-then-carrier_of-eq0

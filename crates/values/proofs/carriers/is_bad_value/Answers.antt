@@ -1,7 +1,5 @@
-use borrow.Author.Tests.{not-true, not-false}
 use Rattle.wire.proofs.MessageLaws.{missing, found}
 use Rattle.values.proofs.CarrierLaws.{value_outside, value_foreign, value_free, value_lacks, value_has}
-use borrow.Author.Rules.{rules}
 use Rattle.values.proofs.carriers.is_bad_value.Goals as goal
 
 pub returns-then-mine-eq0 : goal.returns-then-mine-eq0

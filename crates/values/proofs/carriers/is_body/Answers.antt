@@ -1,5 +1,4 @@
 use Rattle.values.proofs.CarrierLaws.{body_at, body_none}
-use borrow.Author.Rules.{rules}
 use Rattle.values.proofs.carriers.is_body.Goals as goal
 
 pub returns-in-6 : goal.returns-in-6

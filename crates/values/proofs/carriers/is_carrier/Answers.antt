@@ -3,7 +3,6 @@ use Rattle.varint.specs.Lists.{contains}
 use Rattle.varint.proofs.Lists.{subset}
 use Rattle.rules.specs.Node.{carriers, carrier_numbers}
 use Rattle.values.proofs.CarrierLaws.{contains_at, contained_none}
-use borrow.Author.Rules.{rules}
 use Rattle.values.proofs.carriers.is_carrier.Goals as goal
 
 pub returns-in-2 : goal.returns-in-2

@@ -1,5 +1,4 @@
 use Rattle.values.proofs.CarrierLaws.{foreign_own, foreign_other}
-use borrow.Author.Rules.{rules}
 use Rattle.values.proofs.carriers.is_foreign.Goals as goal
 
 pub returns-then-number-mine : goal.returns-then-number-mine

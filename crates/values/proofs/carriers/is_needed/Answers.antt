@@ -3,7 +3,6 @@ use Rattle.varint.specs.Lists.{contains}
 use Rattle.varint.proofs.Lists.{subset}
 use Rattle.rules.specs.Node.{needed}
 use Rattle.values.proofs.CarrierLaws.{contains_at, contained_none}
-use borrow.Author.Rules.{rules}
 use Rattle.values.proofs.carriers.is_needed.Goals as goal
 
 pub returns-in-4 : goal.returns-in-4

@@ -1,6 +1,5 @@
 use mathlib.Core.Path.{refl}
 use Rattle.values.specs.Answers.{naming_says}
-use borrow.Author.Rules.{rules}
 use Rattle.values.proofs.names.misnamed.Goals as goal
 
 pub returns : goal.returns

@@ -2,7 +2,6 @@ use mathlib.Core.Path.{◌∙◌}
 use Rattle.wire.proofs.MessageLaws.{missing, found}
 use Rattle.values.specs.Answers.{naming_says}
 use Rattle.values.proofs.NameLaws.{name_absent, name_empty, name_bad, name_good}
-use borrow.Author.Rules.{rules}
 use Rattle.values.proofs.names.read_name.Goals as goal
 
 pub returns-in_default : goal.returns-in_default

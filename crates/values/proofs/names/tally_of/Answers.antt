@@ -1,6 +1,5 @@
 use mathlib.Core.Path.{sym, ap}
 use Rattle.values.specs.Answers.{tally_of}
-use borrow.Author.Rules.{rules}
 use Rattle.values.proofs.names.tally_of.Goals as goal
 
 pub returns-in-Refused : goal.returns-in-Refused

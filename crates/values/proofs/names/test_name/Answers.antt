@@ -1,6 +1,5 @@
 use mathlib.Core.Path.{◌∙◌}
 use Rattle.values.proofs.NameLaws.{field_empty, field_tested}
-use borrow.Author.Rules.{rules}
 use Rattle.values.proofs.names.test_name.Goals as goal
 
 pub returns-then-text-eq0 : goal.returns-then-text-eq0

@@ -1,6 +1,5 @@
 use Rattle.values.specs.Answers.{ruling_says}
 use mathlib.Core.Path.{refl}
-use borrow.Author.Rules.{rules}
 use Rattle.values.proofs.rulings.refused.Goals as goal
 
 pub returns : goal.returns

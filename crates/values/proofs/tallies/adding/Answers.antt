@@ -1,7 +1,6 @@
 use mathlib.Core.Path.{sym, ap, subst}
 use native.Mathlib.Omega.{arith}
 use Rattle.values.specs.Answers.{adding, Addable}
-use borrow.Author.Rules.{rules}
 use Rattle.values.proofs.tallies.adding.Goals as goal
 
 pub overflow_add-result : goal.overflow_add-result

@@ -1,7 +1,6 @@
 use mathlib.Core.Path.{◌∙◌}
 use Rattle.values.specs.Answers.{tally_says}
 use Rattle.values.proofs.NameLaws.{tested_bad, tested_good}
-use borrow.Author.Rules.{rules}
 use Rattle.values.proofs.tallies.tested.Goals as goal
 
 pub returns-in-Malformed : goal.returns-in-Malformed

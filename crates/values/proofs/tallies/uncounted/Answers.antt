@@ -1,6 +1,5 @@
 use mathlib.Core.Path.{refl}
 use Rattle.values.specs.Answers.{tally_says}
-use borrow.Author.Rules.{rules}
 use Rattle.values.proofs.tallies.uncounted.Goals as goal
 
 pub returns : goal.returns

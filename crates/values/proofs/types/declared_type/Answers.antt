@@ -1,7 +1,6 @@
 use mathlib.Core.Path.{◌∙◌}
 use Rattle.wire.proofs.MessageLaws.{missing, found}
 use Rattle.values.proofs.TypeLaws.{type_none, tensor_none, tensor_some}
-use borrow.Author.Rules.{rules}
 use Rattle.values.proofs.types.declared_type.Goals as goal
 
 pub returns-in_default : goal.returns-in_default

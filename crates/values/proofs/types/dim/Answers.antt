@@ -2,7 +2,6 @@ use mathlib.Core.Path.{◌∙◌}
 use Rattle.wire.proofs.MessageLaws.{missing, found}
 use Rattle.values.specs.Answers.{tally_says}
 use Rattle.values.proofs.TypeLaws.{dim_negative, dim_nameless, dim_empty, dim_tested}
-use borrow.Author.Rules.{rules}
 use Rattle.values.proofs.types.dim.Goals as goal
 
 pub returns-then-number_of-ge-SIGN_BIT : goal.returns-then-number_of-ge-SIGN_BIT

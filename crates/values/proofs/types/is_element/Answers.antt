@@ -1,5 +1,4 @@
 use Rattle.values.proofs.TypeLaws.{element_below, element_rest}
-use borrow.Author.Rules.{rules}
 use Rattle.values.proofs.types.is_element.Goals as goal
 
 pub returns-then-code-lt1 : goal.returns-then-code-lt1

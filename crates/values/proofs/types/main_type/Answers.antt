@@ -1,7 +1,6 @@
 use mathlib.Core.Path.{◌∙◌}
 use Rattle.values.specs.Answers.{tally_says}
 use Rattle.values.proofs.TypeLaws.{main_does, main_not}
-use borrow.Author.Rules.{rules}
 use Rattle.values.proofs.types.main_type.Goals as goal
 
 pub returns-then-main : goal.returns-then-main

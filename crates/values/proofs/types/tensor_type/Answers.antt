@@ -1,8 +1,6 @@
 use mathlib.Core.Path.{◌∙◌}
-use borrow.Author.Tests.{not-true, not-false}
 use Rattle.wire.proofs.MessageLaws.{missing, found}
 use Rattle.values.proofs.TypeLaws.{elem_bad, shape_none, shape_some}
-use borrow.Author.Rules.{rules}
 use Rattle.values.proofs.types.tensor_type.Goals as goal
 
 pub returns-then-not-is_element : goal.returns-then-not-is_element
