@@ -1,6 +1,5 @@
 use mathlib.Core.Path.{ap, ◌∙◌}
 use Rattle.operators.specs.Operators.{domain}
-use borrow.Author.Rules.{rules}
 use Rattle.identities.proofs.functions.domain_of.Goals as goal
 
 pub returns : goal.returns

@@ -1,10 +1,4 @@
-use Prim.Native.Nat.{◌-◌}
-use mathlib.Core.List.{map}
-use lib.ListN.{length}
-use Rattle.rules.specs.Identity.{identified}
-use Rattle.identities.specs.Functions.{identity_by, identity_in, functions_before}
-use Rattle.identities.proofs.FunctionLaws.{Rereading, reread_start, reread_done, reread_past, reread_here, reread_next, reread_falls}
-use borrow.Author.Rules.{rules}
+use Rattle.identities.proofs.FunctionLaws.{reread_start, reread_done, reread_past, reread_here, reread_next, reread_falls}
 use Rattle.identities.proofs.functions.has_earlier.Goals as goal
 
 pub loop-f-init : goal.loop-f-init

@@ -3,7 +3,7 @@ use mathlib.Core.List.{map}
 use lib.ListN.{length}
 use Rattle.rules.specs.Identity.{identified}
 use Rattle.identities.specs.Functions.{identity_by, identity_in, functions_before}
-use Rattle.identities.proofs.FunctionLaws.{Rereading, reread_start, reread_done, reread_past, reread_here, reread_next, reread_falls}
+use Rattle.identities.proofs.FunctionLaws.{Rereading}
 use Rattle.identities.proofs.functions.has_earlier.Given as goal
 
 abbrev pub invariant-loop-f : goal.invariant-loop-f

@@ -1,6 +1,4 @@
-use borrow.Author.Tests.{not-true, not-false}
 use Rattle.identities.proofs.FunctionLaws.{other_name, other_domain, same_overload}
-use borrow.Author.Rules.{rules}
 use Rattle.identities.proofs.functions.has_identity.Goals as goal
 
 pub returns-then-not-same_bytes : goal.returns-then-not-same_bytes

@@ -1,7 +1,6 @@
 use mathlib.Core.Path.{◌∙◌}
 use Rattle.varint.specs.Bytes.{part}
 use Rattle.identities.proofs.FunctionLaws.{overload_none, overload_some}
-use borrow.Author.Rules.{rules}
 use Rattle.identities.proofs.functions.overload_of.Goals as goal
 
 pub returns-then-version-lt-OVERLOADS : goal.returns-then-version-lt-OVERLOADS

@@ -1,7 +1,6 @@
 use borrow.Author.Tests.{not-true, not-false}
 use Rattle.identities.proofs.FunctionLaws.{identity_parts}
 use Rattle.identities.proofs.RecordLaws.{added_none, added_full, added_more}
-use borrow.Author.Rules.{rules}
 use Rattle.identities.proofs.records.add.Goals as goal
 
 pub returns-then-not-known : goal.returns-then-not-known

@@ -1,6 +1,5 @@
 use Rattle.identities.specs.Identified.{holding}
 use Rattle.identities.proofs.RecordLaws.{function_read}
-use borrow.Author.Rules.{rules}
 use Rattle.identities.proofs.records.function_of.Goals as goal
 
 pub returns : goal.returns

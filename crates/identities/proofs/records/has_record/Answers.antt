@@ -1,6 +1,4 @@
-use Rattle.identities.specs.Functions.{identity_by}
-use Rattle.identities.proofs.RecordLaws.{Searching, search_start, search_here, search_less, search_next, search_end, search_none}
-use borrow.Author.Rules.{rules}
+use Rattle.identities.proofs.RecordLaws.{search_start, search_here, search_less, search_next, search_end, search_none}
 use Rattle.identities.proofs.records.has_record.Goals as goal
 
 pub returns-then-used-eq0 : goal.returns-then-used-eq0

@@ -1,5 +1,5 @@
 use Rattle.identities.specs.Functions.{identity_by}
-use Rattle.identities.proofs.RecordLaws.{Searching, search_start, search_here, search_less, search_next, search_end, search_none}
+use Rattle.identities.proofs.RecordLaws.{Searching}
 use Rattle.identities.proofs.records.has_record.Given as goal
 
 abbrev pub invariant-loop-i : goal.invariant-loop-i

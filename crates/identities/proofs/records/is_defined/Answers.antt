@@ -1,6 +1,5 @@
 use Rattle.identities.proofs.FunctionLaws.{identity_parts, identified_by}
 use Rattle.identities.proofs.RecordLaws.{whole_tells}
-use borrow.Author.Rules.{rules}
 use Rattle.identities.proofs.records.is_defined.Goals as goal
 
 pub returns-then-known : goal.returns-then-known

@@ -3,7 +3,6 @@ use Rattle.headers.specs.Earlier.{earlier_in}
 use Rattle.values.specs.Answers.{tally_says}
 use Rattle.values.proofs.NameLaws.{named_some}
 use Rattle.messages.proofs.AttributeLaws.{attribute_nameless, attribute_twice, attribute_bad, attribute_good}
-use borrow.Author.Rules.{rules}
 use Rattle.messages.proofs.attributes.attribute_rules.Goals as goal
 
 pub returns-in_default : goal.returns-in_default

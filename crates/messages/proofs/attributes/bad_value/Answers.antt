@@ -1,7 +1,6 @@
 use mathlib.Core.Path.{◌∙◌}
 use Rattle.values.specs.Answers.{ruling_says}
 use Rattle.messages.proofs.AttributeLaws.{bad_value_lem, good_value}
-use borrow.Author.Rules.{rules}
 use Rattle.messages.proofs.attributes.bad_value.Goals as goal
 
 pub returns-then-bad : goal.returns-then-bad

@@ -1,8 +1,6 @@
 use mathlib.Core.Path.{◌∙◌}
-use borrow.Author.Tests.{not-true, not-false}
 use Rattle.values.proofs.NameLaws.{empty_some}
 use Rattle.messages.proofs.AttributeLaws.{value_own, value_unresolved, value_refers}
-use borrow.Author.Rules.{rules}
 use Rattle.messages.proofs.attributes.value_rules.Goals as goal
 
 pub returns-then-reference-eq0 : goal.returns-then-reference-eq0

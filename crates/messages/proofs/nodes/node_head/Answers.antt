@@ -1,13 +1,11 @@
 use native.Mathlib.Omega.{arith}
 use mathlib.Core.Path.{ap, ◌∙◌}
 use Rattle.varint.specs.Bytes.{member}
-use borrow.Author.Tests.{not-true, not-false}
 use Rattle.rules.specs.Walk.{start}
 use Rattle.values.specs.Answers.{more, tally_says}
 use Rattle.values.proofs.TallyLaws.{addable}
 use Rattle.values.proofs.NameLaws.{named_few}
 use Rattle.messages.proofs.NodeLaws.{node_name_few, imported_by, head_untyped, head_foreign, head_named}
-use borrow.Author.Rules.{rules}
 use Rattle.messages.proofs.nodes.node_head.Goals as goal
 
 pub returns-in_default : goal.returns-in_default

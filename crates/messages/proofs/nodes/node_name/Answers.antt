@@ -4,7 +4,6 @@ use Rattle.headers.specs.Earlier.{earlier_in}
 use Rattle.values.specs.Answers.{tally_says}
 use Rattle.values.proofs.NameLaws.{empty_some}
 use Rattle.messages.proofs.NodeLaws.{node_nameless, node_unnamed, node_misnamed, node_twice, node_named}
-use borrow.Author.Rules.{rules}
 use Rattle.messages.proofs.nodes.node_name.Goals as goal
 
 pub returns-in_default : goal.returns-in_default

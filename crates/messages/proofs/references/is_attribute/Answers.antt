@@ -1,6 +1,5 @@
 use mathlib.Core.Path.{◌∙◌}
 use Rattle.messages.proofs.ContextLaws.{attribute_first, attribute_second}
-use borrow.Author.Rules.{rules}
 use Rattle.messages.proofs.references.is_attribute.Goals as goal
 
 pub has-requires : goal.has-requires

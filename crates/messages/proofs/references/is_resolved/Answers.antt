@@ -2,7 +2,6 @@ use mathlib.Core.Path.{sym, ap, ◌∙◌}
 use Rattle.varint.specs.Bytes.{member}
 use borrow.Author.Tests.{not-true, not-false}
 use Rattle.messages.proofs.ContextLaws.{resolved_none, attributes_all}
-use borrow.Author.Rules.{rules}
 use Rattle.messages.proofs.references.is_resolved.Goals as goal
 
 pub returns-then-not-s : goal.returns-then-not-s

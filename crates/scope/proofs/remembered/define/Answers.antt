@@ -5,7 +5,6 @@ use Rattle.scope.specs.Scope.{grows}
 use Rattle.scope.proofs.ScopeLaws.{define_twice, define_full, define_new, keeps_all, keeps_stored}
 use Rattle.scope.proofs.RecordLaws.{direct_fits}
 use Rattle.scope.proofs.RecallLaws.{recalled_none, recalled_more}
-use borrow.Author.Rules.{rules}
 use Rattle.scope.proofs.remembered.define.Goals as goal
 
 pub find-found-requires : goal.find-found-requires

@@ -1,6 +1,5 @@
 use mathlib.Core.Path.{sym}
 use lib.Seq.{length-take-le}
-use borrow.Author.Rules.{rules}
 use Rattle.scope.proofs.remembered.find.Goals as goal
 
 pub slice_bounds-find_in-end : goal.slice_bounds-find_in-end

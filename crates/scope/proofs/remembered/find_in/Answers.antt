@@ -1,7 +1,6 @@
 use Rattle.scope.proofs.RecallLaws.{recall_ends}
-use Rattle.scope.proofs.ScopeLaws.{Searching, search_start, search_here, search_next}
+use Rattle.scope.proofs.ScopeLaws.{search_start, search_here, search_next}
 use native.Mathlib.Omega.{arith}
-use borrow.Author.Rules.{rules}
 use Rattle.scope.proofs.remembered.find_in.Goals as goal
 
 pub loop-i-init : goal.loop-i-init

@@ -1,6 +1,4 @@
-use Rattle.scope.proofs.RecallLaws.{recall_ends}
-use Rattle.scope.proofs.ScopeLaws.{Searching, search_start, search_here, search_next}
-use native.Mathlib.Omega.{arith}
+use Rattle.scope.proofs.ScopeLaws.{Searching}
 use Rattle.scope.proofs.remembered.find_in.Given as goal
 
 abbrev pub invariant-loop-i : goal.invariant-loop-i

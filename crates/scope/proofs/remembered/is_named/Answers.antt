@@ -2,7 +2,6 @@ use Prim.Native.Nat.{ℕ}
 use mathlib.Core.Path.{ap, ◌∙◌}
 use Rattle.wire.specs.Encoding.{contents_at}
 use Rattle.scope.proofs.RecordLaws.{other_length, same_there}
-use borrow.Author.Rules.{rules}
 use Rattle.scope.proofs.remembered.is_named.Goals as goal
 
 pub returns-then-len-name : goal.returns-then-len-name

@@ -1,5 +1,4 @@
 use Rattle.scope.proofs.SplitLaws.{others_lent, added_on}
-use borrow.Author.Rules.{rules}
 use Rattle.scope.proofs.remembered.list.Goals as goal
 
 pub list_name-requires : goal.list_name-requires

@@ -1,7 +1,6 @@
 use mathlib.Core.Path.{sym}
 use lib.Seq.{length-take-le}
 use Rattle.scope.proofs.SplitLaws.{remembered_on}
-use borrow.Author.Rules.{rules}
 use Rattle.scope.proofs.remembered.remember.Goals as goal
 
 pub slice_bounds-remember_name-end : goal.slice_bounds-remember_name-end

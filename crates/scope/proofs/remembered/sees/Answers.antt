@@ -1,7 +1,6 @@
 use mathlib.Core.Path.{ap, ◌∙◌}
 use Rattle.index.specs.Table.{since}
 use Rattle.scope.proofs.ScopeLaws.{found_visible}
-use borrow.Author.Rules.{rules}
 use Rattle.scope.proofs.remembered.sees.Goals as goal
 
 pub returns : goal.returns

@@ -1,6 +1,5 @@
 use mathlib.Core.Path.{ap, ◌∙◌}
 use Rattle.index.specs.Table.{since}
-use borrow.Author.Rules.{rules}
 use Rattle.scope.proofs.remembered.sees_since.Goals as goal
 
 pub returns : goal.returns

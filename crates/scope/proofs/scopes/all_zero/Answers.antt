@@ -1,8 +1,5 @@
-use Prim.Native.Nat.{◌≤◌, ◌-◌}
 use native.Mathlib.Omega.{arith}
-use mathlib.Core.Path.{◌≡◌, refl}
-use mathlib.Core.Bool.{true}
-use lib.ListN.{length, take, replicate}
+use mathlib.Core.Path.{refl}
 use Rattle.scope.proofs.ClearLaws.{zeros_more, zeros_all}
 use borrow.Author.Rules.{rules}
 use Rattle.scope.proofs.scopes.all_zero.Goals as goal

@@ -1,9 +1,7 @@
 use Prim.Native.Nat.{◌≤◌, ◌-◌}
-use native.Mathlib.Omega.{arith}
-use mathlib.Core.Path.{◌≡◌, refl}
+use mathlib.Core.Path.{◌≡◌}
 use mathlib.Core.Bool.{true}
 use lib.ListN.{length, take, replicate}
-use Rattle.scope.proofs.ClearLaws.{zeros_more, zeros_all}
 use Rattle.scope.proofs.scopes.all_zero.Given as goal
 
 abbrev pub invariant-loop-i : goal.invariant-loop-i

@@ -3,7 +3,6 @@ use native.Mathlib.Omega.{arith}
 use mathlib.Core.Path.{refl, sym}
 use lib.ListN.{get_or-eq_default}
 use Rattle.rules.specs.Verdict.{WIDTH}
-use borrow.Author.Rules.{rules}
 use Rattle.scope.proofs.scopes.cell_at.Goals as goal
 
 pub returns-then-cells-i : goal.returns-then-cells-i

@@ -1,4 +1,3 @@
-use borrow.Author.Rules.{rules}
 use Rattle.scope.proofs.scopes.clear_part.Goals as goal
 
 pub returns-then-all_zero : goal.returns-then-all_zero

@@ -1,6 +1,5 @@
 use native.Mathlib.Omega.{arith}
 use Rattle.wire.specs.Encoding.{contents_at}
-use borrow.Author.Rules.{rules}
 use Rattle.scope.proofs.scopes.contents_at.Goals as goal
 
 pub returns : goal.returns

@@ -2,7 +2,6 @@ use mathlib.Core.Path.{sym, ap, subst, ◌∙◌}
 use Rattle.values.specs.Answers.{Addable}
 use Rattle.scope.specs.Scope.{counting}
 use Rattle.scope.specs.declared.scopes.Step.TheVariants as step
-use borrow.Author.Rules.{rules}
 use Rattle.scope.proofs.scopes.counting.Goals as goal
 
 pub with_odd-requires : goal.with_odd-requires

@@ -1,6 +1,5 @@
 use mathlib.Core.Path.{refl}
 use Rattle.scope.specs.Scope.{left}
-use borrow.Author.Rules.{rules}
 use Rattle.scope.proofs.scopes.leaving.Goals as goal
 
 pub returns : goal.returns

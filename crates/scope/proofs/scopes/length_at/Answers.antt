@@ -1,7 +1,6 @@
 use native.Mathlib.Omega.{arith}
 use Rattle.rules.specs.Verdict.{WIDTH}
 use Rattle.scope.specs.Scope.{length_in}
-use borrow.Author.Rules.{rules}
 use Rattle.scope.proofs.scopes.length_at.Goals as goal
 
 pub cell_at-requires : goal.cell_at-requires
@@ -9,5 +8,5 @@ unfolding WIDTH
 cell_at-requires c = omega arith
 
 pub returns : goal.returns
-unfolding length_in WIDTH
+unfolding length_in
 returns c = c.cell_at.ensures

@@ -6,7 +6,6 @@ use mathlib.Core.List.{List}
 use lib.ListN.{get_or}
 use Rattle.rules.specs.Verdict.{WIDTH}
 use Rattle.scope.specs.Scope.{place_in}
-use borrow.Author.Rules.{rules}
 use Rattle.scope.proofs.scopes.place_at.Goals as goal
 
 first_cell : (cells : List ℕ) (i : ℕ) → get_or cells (WIDTH * i + 0) 0 ≡ place_in cells i
@@ -18,5 +17,4 @@ unfolding WIDTH
 cell_at-requires c = omega arith
 
 pub returns : goal.returns
-unfolding WIDTH
 returns c = let e = c.cell_at.ensures in (e.0 ∙ first_cell _ _, e.1)

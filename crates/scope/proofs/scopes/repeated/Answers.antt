@@ -1,7 +1,6 @@
 use mathlib.Core.Path.{sym, ap, ◌∙◌}
 use Rattle.varint.specs.Outcome.{refused_with}
 use Rattle.scope.specs.Scope.{first_in, step_says, grows}
-use borrow.Author.Rules.{rules}
 use Rattle.scope.proofs.scopes.repeated.Goals as goal
 
 pub returns-in-At : goal.returns-in-At

@@ -1,6 +1,5 @@
 use mathlib.Core.Path.{refl}
 use Rattle.rules.specs.Verdict.{WIDTH, room}
-use borrow.Author.Rules.{rules}
 use Rattle.scope.proofs.scopes.room.Goals as goal
 
 pub returns : goal.returns

@@ -1,6 +1,5 @@
 use mathlib.Core.Path.{sym, ap}
 use Rattle.scope.specs.Scope.{standing}
-use borrow.Author.Rules.{rules}
 use Rattle.scope.proofs.scopes.standing.Goals as goal
 
 pub returns-in-Kept : goal.returns-in-Kept

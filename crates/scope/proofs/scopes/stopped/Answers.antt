@@ -1,6 +1,5 @@
 use mathlib.Core.Path.{refl}
 use Rattle.scope.specs.Scope.{step_says, grows}
-use borrow.Author.Rules.{rules}
 use Rattle.scope.proofs.scopes.stopped.Goals as goal
 
 pub returns : goal.returns

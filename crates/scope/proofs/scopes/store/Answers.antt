@@ -5,7 +5,6 @@ use lib.ListN.{length-set}
 use Rattle.rules.specs.Verdict.{WIDTH}
 use Rattle.scope.specs.Scope.{stored}
 use Rattle.scope.proofs.RecordLaws.{room_fits}
-use borrow.Author.Rules.{rules}
 use Rattle.scope.proofs.scopes.store.Goals as goal
 
 pub overflow_mul-at : goal.overflow_mul-at

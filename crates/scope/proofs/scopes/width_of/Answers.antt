@@ -1,7 +1,6 @@
 use native.Mathlib.Omega.{arith}
 use mathlib.Core.Path.{sym}
 use Rattle.varint.proofs.EncodingLaws.{width_one, width_above}
-use borrow.Author.Rules.{rules}
 use Rattle.scope.proofs.scopes.width_of.Goals as goal
 
 pub returns-then-n-lt128 : goal.returns-then-n-lt128

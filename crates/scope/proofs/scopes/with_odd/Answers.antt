@@ -1,6 +1,5 @@
 use mathlib.Core.Path.{refl}
 use Rattle.scope.specs.Scope.{with_odd}
-use borrow.Author.Rules.{rules}
 use Rattle.scope.proofs.scopes.with_odd.Goals as goal
 
 pub returns : goal.returns

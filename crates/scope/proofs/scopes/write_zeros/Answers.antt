@@ -1,8 +1,5 @@
-use Prim.Native.Nat.{◌≤◌, ◌-◌}
 use native.Mathlib.Omega.{arith}
-use mathlib.Core.Path.{◌≡◌, refl}
-use mathlib.Core.List.{◌++◌}
-use lib.ListN.{length, drop, replicate}
+use mathlib.Core.Path.{refl}
 use Rattle.scope.proofs.ScopeLaws.{fill_length, fill_turn, fill_done}
 use borrow.Author.Rules.{rules}
 use Rattle.scope.proofs.scopes.write_zeros.Goals as goal

@@ -1,9 +1,7 @@
 use Prim.Native.Nat.{◌≤◌, ◌-◌}
-use native.Mathlib.Omega.{arith}
-use mathlib.Core.Path.{◌≡◌, refl}
+use mathlib.Core.Path.{◌≡◌}
 use mathlib.Core.List.{◌++◌}
 use lib.ListN.{length, drop, replicate}
-use Rattle.scope.proofs.ScopeLaws.{fill_length, fill_turn, fill_done}
 use Rattle.scope.proofs.scopes.write_zeros.Given as goal
 
 abbrev pub invariant-loop-i : goal.invariant-loop-i

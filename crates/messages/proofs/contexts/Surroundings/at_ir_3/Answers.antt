@@ -1,7 +1,6 @@
 use mathlib.Core.Path.{refl}
 use Rattle.rules.specs.Graph.{at_ir3}
 use Rattle.messages.specs.Around.{context}
-use borrow.Author.Rules.{rules}
 use Rattle.messages.proofs.contexts.Surroundings.at_ir_3.Goals as goal
 
 pub returns : goal.returns

@@ -1,5 +1,4 @@
 use Rattle.messages.proofs.ContextLaws.{number_function, number_model}
-use borrow.Author.Rules.{rules}
 use Rattle.messages.proofs.contexts.Surroundings.import_number.Goals as goal
 
 pub returns-then-self : goal.returns-then-self

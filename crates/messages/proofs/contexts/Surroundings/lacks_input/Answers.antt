@@ -1,5 +1,4 @@
 use Rattle.messages.proofs.ContextLaws.{own_lacks, other_lacks}
-use borrow.Author.Rules.{rules}
 use Rattle.messages.proofs.contexts.Surroundings.lacks_input.Goals as goal
 
 pub returns-then-own : goal.returns-then-own

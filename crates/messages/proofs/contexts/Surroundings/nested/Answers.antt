@@ -1,6 +1,5 @@
 use mathlib.Core.Path.{refl}
 use Rattle.messages.specs.Around.{inside}
-use borrow.Author.Rules.{rules}
 use Rattle.messages.proofs.contexts.Surroundings.nested.Goals as goal
 
 pub returns : goal.returns

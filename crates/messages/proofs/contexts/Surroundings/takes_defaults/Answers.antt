@@ -1,5 +1,4 @@
 use Rattle.messages.proofs.ContextLaws.{main_takes, nested_takes}
-use borrow.Author.Rules.{rules}
 use Rattle.messages.proofs.contexts.Surroundings.takes_defaults.Goals as goal
 
 pub returns-then-self : goal.returns-then-self
