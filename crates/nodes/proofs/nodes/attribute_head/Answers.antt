@@ -1,5 +1,4 @@
 use Rattle.scope.proofs.SplitLaws.{others_lent}
-use borrow.Author.Rules.{rules}
 use Rattle.nodes.proofs.nodes.attribute_head.Goals as goal
 
 pub attribute_rules-requires : goal.attribute_rules-requires

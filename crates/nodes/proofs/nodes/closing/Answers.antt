@@ -1,11 +1,9 @@
 use Rattle.scope.proofs.RecallLaws.{recalled_none}
 use native.Mathlib.Omega.{arith}
 use mathlib.Core.Path.{subst, ◌∙◌}
-use borrow.Author.Tests.{not-true, not-false}
 use Rattle.scope.specs.Scope.{walk_in, grows}
 use Rattle.scope.proofs.ScopeLaws.{keeps_all}
 use Rattle.nodes.proofs.ClosingLaws.{closing_none, closing_stops, closing_went, closing_still}
-use borrow.Author.Rules.{rules}
 use Rattle.nodes.proofs.nodes.closing.Goals as goal
 
 pub returns-then-not-has : goal.returns-then-not-has

@@ -1,5 +1,4 @@
 use Rattle.scope.proofs.SplitLaws.{others_lent}
-use borrow.Author.Rules.{rules}
 use Rattle.nodes.proofs.nodes.head.Goals as goal
 
 pub node_head-requires : goal.node_head-requires

@@ -2,7 +2,6 @@ use mathlib.Core.Path.{◌∙◌}
 use Rattle.values.specs.Answers.{tally_says}
 use Rattle.values.proofs.NameLaws.{empty_some}
 use Rattle.nodes.proofs.NodeLaws.{input_out, input_bad, input_visible, input_hidden}
-use borrow.Author.Rules.{rules}
 use Rattle.nodes.proofs.nodes.node_input.Goals as goal
 
 pub returns-then-text-eq0 : goal.returns-then-text-eq0

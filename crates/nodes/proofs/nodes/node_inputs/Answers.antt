@@ -1,18 +1,12 @@
-use Prim.Native.Nat.{◌-◌}
 use native.Mathlib.Omega.{arith}
-use mathlib.Core.Path.{◌≡◌, ap, ◌∙◌}
+use mathlib.Core.Path.{ap, ◌∙◌}
 use Rattle.wire.specs.Answers.{contents_of}
 use Rattle.wire.specs.declared.Cursor.{Cursor}
 use Rattle.wire.proofs.Along.{along_contents}
 use Rattle.schema.specs.Numbers.{Node-input}
-use Rattle.rules.specs.Walk.{Walk}
-use Rattle.rules.specs.Node.{node_input}
 use Rattle.values.specs.Answers.{more, tally_says}
-use Rattle.values.proofs.TallyLaws.{Tallying, tallying_start, tallying_done, tallying_stops, tallying_goes, tallying_fits, tallying_falls}
-use Rattle.scope.specs.Scope.{scope_in}
-use Rattle.messages.specs.Again.{field_names}
+use Rattle.values.proofs.TallyLaws.{tallying_start, tallying_done, tallying_stops, tallying_goes, tallying_fits, tallying_falls}
 use Rattle.nodes.proofs.NodeCounts.{input_few, inputs_few}
-use borrow.Author.Rules.{rules}
 use Rattle.nodes.proofs.nodes.node_inputs.Goals as goal
 
 pub loop-f-init : goal.loop-f-init

@@ -1,17 +1,11 @@
 use Prim.Native.Nat.{◌-◌}
-use native.Mathlib.Omega.{arith}
-use mathlib.Core.Path.{◌≡◌, ap, ◌∙◌}
-use Rattle.wire.specs.Answers.{contents_of}
-use Rattle.wire.specs.declared.Cursor.{Cursor}
-use Rattle.wire.proofs.Along.{along_contents}
+use mathlib.Core.Path.{◌≡◌}
 use Rattle.schema.specs.Numbers.{Node-input}
 use Rattle.rules.specs.Walk.{Walk}
 use Rattle.rules.specs.Node.{node_input}
-use Rattle.values.specs.Answers.{more, tally_says}
-use Rattle.values.proofs.TallyLaws.{Tallying, tallying_start, tallying_done, tallying_stops, tallying_goes, tallying_fits, tallying_falls}
+use Rattle.values.proofs.TallyLaws.{Tallying}
 use Rattle.scope.specs.Scope.{scope_in}
 use Rattle.messages.specs.Again.{field_names}
-use Rattle.nodes.proofs.NodeCounts.{input_few, inputs_few}
 use Rattle.nodes.proofs.nodes.node_inputs.Given as goal
 
 abbrev pub invariant-loop-f : goal.invariant-loop-f

@@ -3,7 +3,6 @@ use Rattle.values.specs.Answers.{more, tally_says}
 use Rattle.nodes.proofs.NodeCounts.{head_few, inputs_most}
 use Rattle.nodes.proofs.NodeLaws.{rules_headed, rules_inputs}
 use Rattle.values.proofs.TallyLaws.{addable}
-use borrow.Author.Rules.{rules}
 use Rattle.nodes.proofs.nodes.node_rules.Goals as goal
 
 pub head-tally-requires : goal.head-tally-requires

@@ -1,10 +1,8 @@
 use mathlib.Core.Path.{ap, ◌∙◌}
-use borrow.Author.Tests.{not-true, not-false}
 use Rattle.varint.specs.Lists.{is_empty}
 use Rattle.values.specs.Answers.{more, tally_says}
 use Rattle.values.proofs.NameLaws.{named_some, named_few}
 use Rattle.nodes.proofs.OutputLaws.{listed_unnamed, listed_hidden, listed_visible, listed_fits}
-use borrow.Author.Rules.{rules}
 use Rattle.nodes.proofs.outputs.graph_output.Goals as goal
 
 pub sees-requires : goal.sees-requires

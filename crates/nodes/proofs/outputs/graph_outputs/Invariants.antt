@@ -1,17 +1,12 @@
 use Prim.Native.Nat.{◌-◌}
-use native.Mathlib.Omega.{arith}
-use mathlib.Core.Path.{◌≡◌, refl, ◌∙◌}
-use Rattle.wire.proofs.Along.{along_contents}
+use mathlib.Core.Path.{◌≡◌}
 use Rattle.schema.specs.Numbers.{Graph-output}
 use Rattle.rules.specs.Walk.{Walk}
 use Rattle.rules.specs.Count.{value_names}
 use Rattle.rules.specs.Graph.{output}
-use Rattle.values.specs.Answers.{more, tally_says}
-use Rattle.values.proofs.TallyLaws.{Tallying, tallying_start, tallying_done, tallying_stops, tallying_goes, tallying_falls}
+use Rattle.values.proofs.TallyLaws.{Tallying}
 use Rattle.scope.specs.Scope.{scope_in}
 use Rattle.scope.proofs.StepLaws.{plain}
-use Rattle.nodes.proofs.NodeCounts.{tallying_sum, tallying_room}
-use Rattle.nodes.proofs.OutputLaws.{outputs_any, listed_few}
 use Rattle.nodes.proofs.outputs.graph_outputs.Given as goal
 
 abbrev pub invariant-loop-f : goal.invariant-loop-f

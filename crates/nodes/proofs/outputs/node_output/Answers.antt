@@ -8,7 +8,6 @@ use Rattle.scope.proofs.RecallLaws.{recalled_none}
 use Rattle.messages.specs.Again.{field_names}
 use Rattle.nodes.proofs.OutputLaws.{output_out, output_bad, output_new, odd_says}
 use Rattle.scope.proofs.StepLaws.{odd_grows, odd_keeps}
-use borrow.Author.Rules.{rules}
 use Rattle.nodes.proofs.outputs.node_output.Goals as goal
 
 pub returns-then-text-eq0 : goal.returns-then-text-eq0

@@ -1,19 +1,9 @@
-use Prim.Native.Nat.{◌-◌}
 use mathlib.Core.Path.{◌∙◌}
-use lib.ListN.{length}
-use Rattle.varint.specs.Outcome.{each}
-use Rattle.wire.proofs.Along.{all_from, along_start, along_contents}
-use Rattle.schema.specs.Numbers.{Node-output}
-use Rattle.rules.specs.Verdict.{fills}
-use Rattle.rules.specs.Node.{node_output}
-use Rattle.scope.specs.Scope.{walk_in}
-use Rattle.scope.specs.Recall.{Recalled}
+use Rattle.wire.proofs.Along.{along_start, along_contents}
 use Rattle.scope.proofs.RecallLaws.{recalled_none, recalled_then}
 use Rattle.scope.proofs.RecordLaws.{node_output_lem}
-use Rattle.scope.proofs.StepLaws.{Adding, adding_start, adding_done, adding_falls, adding_countable, from_contents, adding_direct, adding_stops, adding_goes}
-use Rattle.messages.specs.Again.{field_names}
+use Rattle.scope.proofs.StepLaws.{adding_start, adding_done, adding_falls, adding_countable, from_contents, adding_direct, adding_stops, adding_goes}
 use Rattle.nodes.proofs.OutputLaws.{output_counts}
-use borrow.Author.Rules.{rules}
 use Rattle.nodes.proofs.outputs.node_outputs.Goals as goal
 
 pub loop-f-init : goal.loop-f-init

@@ -1,18 +1,14 @@
 use Prim.Native.Nat.{◌-◌}
-use mathlib.Core.Path.{◌∙◌}
 use lib.ListN.{length}
 use Rattle.varint.specs.Outcome.{each}
-use Rattle.wire.proofs.Along.{all_from, along_start, along_contents}
+use Rattle.wire.proofs.Along.{all_from}
 use Rattle.schema.specs.Numbers.{Node-output}
 use Rattle.rules.specs.Verdict.{fills}
 use Rattle.rules.specs.Node.{node_output}
 use Rattle.scope.specs.Scope.{walk_in}
 use Rattle.scope.specs.Recall.{Recalled}
-use Rattle.scope.proofs.RecallLaws.{recalled_none, recalled_then}
-use Rattle.scope.proofs.RecordLaws.{node_output_lem}
-use Rattle.scope.proofs.StepLaws.{Adding, adding_start, adding_done, adding_falls, adding_countable, from_contents, adding_direct, adding_stops, adding_goes}
+use Rattle.scope.proofs.StepLaws.{Adding}
 use Rattle.messages.specs.Again.{field_names}
-use Rattle.nodes.proofs.OutputLaws.{output_counts}
 use Rattle.nodes.proofs.outputs.node_outputs.Given as goal
 
 abbrev pub invariant-loop-f : goal.invariant-loop-f

@@ -1,7 +1,5 @@
 use mathlib.Core.Path.{◌∙◌}
-use borrow.Author.Tests.{not-true, not-false}
 use Rattle.parts.proofs.InitializerLaws.{first_not, then_second}
-use borrow.Author.Rules.{rules}
 use Rattle.parts.proofs.initializers.bears_input.Goals as goal
 
 pub returns-then-not-takes_defaults : goal.returns-then-not-takes_defaults

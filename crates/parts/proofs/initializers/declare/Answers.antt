@@ -4,7 +4,6 @@ use Rattle.scope.specs.Scope.{step_says, grows}
 use Rattle.scope.proofs.ScopeLaws.{keeps_all}
 use Rattle.scope.proofs.RecallLaws.{recalled_none}
 use Rattle.parts.proofs.InitializerLaws.{declare_lacks, declare_default, declare_new}
-use borrow.Author.Rules.{rules}
 use Rattle.parts.proofs.initializers.declare.Goals as goal
 
 pub bears_input-own-requires : goal.bears_input-own-requires

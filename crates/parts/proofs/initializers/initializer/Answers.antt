@@ -6,7 +6,6 @@ use Rattle.scope.proofs.RecordLaws.{tensor_name, name_first}
 use Rattle.scope.proofs.StepLaws.{odd_grows, odd_keeps}
 use Rattle.values.proofs.NameLaws.{named_some, named_first, named_few}
 use Rattle.parts.proofs.InitializerLaws.{initializer_unnamed, initializer_stops, initializer_mistyped, initializer_goes, initializer_fits}
-use borrow.Author.Rules.{rules}
 use Rattle.parts.proofs.initializers.initializer.Goals as goal
 
 pub with_odd-t-requires : goal.with_odd-t-requires

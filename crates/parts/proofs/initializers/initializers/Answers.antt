@@ -1,22 +1,11 @@
 use native.Mathlib.Omega.{arith}
-use Prim.Native.Nat.{◌≤◌}
 use Rattle.scope.proofs.RecallLaws.{minded_then, minded_recalled}
-use Rattle.parts.proofs.ListsLaws.{Lists, lists_start, lists_fits, lists_found, lists_next}
+use Rattle.parts.proofs.ListsLaws.{lists_start, lists_fits, lists_found, lists_next}
 use Rattle.parts.proofs.InitializerLaws.{default_kept, used_after, initializer_counts}
 use Rattle.schema.proofs.Opened.{graph_initializer}
-use Rattle.schema.specs.Numbers.{Tensor-name}
-use Rattle.scope.specs.Scope.{Defaultable}
-use Prim.Native.Nat.{◌-◌}
 use mathlib.Core.Path.{◌∙◌}
-use lib.ListN.{length}
-use Rattle.varint.specs.Outcome.{each}
-use Rattle.wire.proofs.Along.{all_from, along_start, along_contents}
-use Rattle.schema.specs.Numbers.{Graph-initializer}
-use Rattle.rules.specs.Verdict.{fills}
-use Rattle.scope.specs.Scope.{walk_in}
-use Rattle.messages.specs.Again.{tensor_names, initializer_again}
-use Rattle.scope.proofs.StepLaws.{Adding, adding_start, adding_done, adding_falls, adding_walked, adding_countable, from_contents, adding_stops, adding_goes}
-use borrow.Author.Rules.{rules}
+use Rattle.wire.proofs.Along.{along_start, along_contents}
+use Rattle.scope.proofs.StepLaws.{adding_start, adding_done, adding_falls, adding_walked, adding_countable, from_contents, adding_stops, adding_goes}
 use Rattle.parts.proofs.initializers.initializers.Goals as goal
 
 pub loop-f-init : goal.loop-f-init

@@ -1,8 +1,6 @@
 use mathlib.Core.Path.{refl, ap}
 use mathlib.Core.Bool.{not}
-use borrow.Author.Tests.{not-true, not-false}
 use Rattle.parts.proofs.InitializerLaws.{first_not, then_second}
-use borrow.Author.Rules.{rules}
 use Rattle.parts.proofs.initializers.is_default.Goals as goal
 
 pub returns-then-not-own : goal.returns-then-not-own

@@ -1,6 +1,5 @@
 use Rattle.headers.specs.Earlier.{earlier_in}
 use Rattle.scope.proofs.SplitLaws.{others_lent}
-use borrow.Author.Rules.{rules}
 use Rattle.parts.proofs.initializers.is_repeated.Goals as goal
 
 pub is_listed-requires : goal.is_listed-requires

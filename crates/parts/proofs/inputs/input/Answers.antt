@@ -6,7 +6,6 @@ use Rattle.scope.proofs.RecordLaws.{value_info_name, name_first}
 use Rattle.scope.proofs.StepLaws.{odd_grows, odd_keeps}
 use Rattle.values.proofs.NameLaws.{named_some, named_first, named_few}
 use Rattle.parts.proofs.InputLaws.{input_unnamed, input_stops, input_goes, input_fits, input_adds, input_grows}
-use borrow.Author.Rules.{rules}
 use Rattle.parts.proofs.inputs.input.Goals as goal
 
 pub with_odd-requires : goal.with_odd-requires

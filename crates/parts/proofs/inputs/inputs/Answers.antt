@@ -1,20 +1,9 @@
 use Rattle.scope.proofs.RecallLaws.{recalled_none, recalled_then}
-use Prim.Native.Nat.{◌-◌}
 use mathlib.Core.Path.{refl, ◌∙◌}
-use lib.ListN.{length}
-use Rattle.varint.specs.Outcome.{each}
-use Rattle.wire.proofs.Along.{all_from, along_start, along_contents}
+use Rattle.wire.proofs.Along.{along_start, along_contents}
 use Rattle.schema.proofs.Opened.{graph_input}
-use Rattle.schema.specs.Numbers.{Graph-input}
-use Rattle.rules.specs.Verdict.{fills}
-use Rattle.rules.specs.Graph.{input}
-use Rattle.rules.specs.Count.{value_names}
-use Rattle.scope.specs.Scope.{walk_in}
-use Rattle.scope.specs.Recall.{Recalled}
-use Rattle.scope.proofs.StepLaws.{plain}
 use Rattle.parts.proofs.InputLaws.{inputs_any, input_counts}
-use Rattle.scope.proofs.StepLaws.{Adding, adding_start, adding_done, adding_falls, adding_walked, adding_countable, from_contents, adding_stops, adding_goes}
-use borrow.Author.Rules.{rules}
+use Rattle.scope.proofs.StepLaws.{adding_start, adding_done, adding_falls, adding_walked, adding_countable, from_contents, adding_stops, adding_goes}
 use Rattle.parts.proofs.inputs.inputs.Goals as goal
 
 pub loop-f-init : goal.loop-f-init

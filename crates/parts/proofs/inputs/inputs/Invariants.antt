@@ -1,10 +1,7 @@
-use Rattle.scope.proofs.RecallLaws.{recalled_none, recalled_then}
 use Prim.Native.Nat.{◌-◌}
-use mathlib.Core.Path.{refl, ◌∙◌}
 use lib.ListN.{length}
 use Rattle.varint.specs.Outcome.{each}
-use Rattle.wire.proofs.Along.{all_from, along_start, along_contents}
-use Rattle.schema.proofs.Opened.{graph_input}
+use Rattle.wire.proofs.Along.{all_from}
 use Rattle.schema.specs.Numbers.{Graph-input}
 use Rattle.rules.specs.Verdict.{fills}
 use Rattle.rules.specs.Graph.{input}
@@ -12,8 +9,7 @@ use Rattle.rules.specs.Count.{value_names}
 use Rattle.scope.specs.Scope.{walk_in}
 use Rattle.scope.specs.Recall.{Recalled}
 use Rattle.scope.proofs.StepLaws.{plain}
-use Rattle.parts.proofs.InputLaws.{inputs_any, input_counts}
-use Rattle.scope.proofs.StepLaws.{Adding, adding_start, adding_done, adding_falls, adding_walked, adding_countable, from_contents, adding_stops, adding_goes}
+use Rattle.scope.proofs.StepLaws.{Adding}
 use Rattle.parts.proofs.inputs.inputs.Given as goal
 
 abbrev pub invariant-loop-f : goal.invariant-loop-f

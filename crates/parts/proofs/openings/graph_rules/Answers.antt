@@ -1,7 +1,6 @@
 use mathlib.Core.Path.{ap, ◌∙◌}
 use Rattle.values.specs.Answers.{tally_says}
 use Rattle.parts.proofs.OpeningLaws.{graph_misnamed, graph_sparse, graph_ruled}
-use borrow.Author.Rules.{rules}
 use Rattle.parts.proofs.openings.graph_rules.Goals as goal
 
 pub returns-in_default : goal.returns-in_default

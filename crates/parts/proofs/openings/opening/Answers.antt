@@ -1,7 +1,6 @@
 use Rattle.scope.proofs.RecallLaws.{minded_none, minded_then, minded_recalled}
 use Rattle.parts.proofs.OpeningLaws.{inputs_defaultable, opening_refused, opening_stops, opening_goes, opening_fits}
 use Rattle.parts.proofs.OpeningLaws.{opening_inputs, opening_values}
-use borrow.Author.Rules.{rules}
 use Rattle.parts.proofs.openings.opening.Goals as goal
 
 pub counting-named-requires : goal.counting-named-requires

@@ -1,7 +1,6 @@
 use mathlib.Core.Path.{◌∙◌}
 use Rattle.values.specs.Answers.{tally_says}
 use Rattle.signatures.proofs.AttributeLaws.{attribute_misnamed, attribute_some, attribute_twice, attribute_once}
-use borrow.Author.Rules.{rules}
 use Rattle.signatures.proofs.attributes.attribute_name.Goals as goal
 
 pub returns-in_default : goal.returns-in_default

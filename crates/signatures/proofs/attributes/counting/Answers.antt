@@ -1,7 +1,6 @@
 use mathlib.Core.Path.{sym, ap, subst}
 use native.Mathlib.Omega.{arith}
 use Rattle.signatures.specs.Signature.{counting, Room}
-use borrow.Author.Rules.{rules}
 use Rattle.signatures.proofs.attributes.counting.Goals as goal
 
 pub overflow_add-result : goal.overflow_add-result

@@ -1,6 +1,5 @@
 use mathlib.Core.Path.{sym, ap}
 use Rattle.signatures.specs.Signature.{with_listing}
-use borrow.Author.Rules.{rules}
 use Rattle.signatures.proofs.attributes.listing.Goals as goal
 
 pub returns-in-Refused : goal.returns-in-Refused

@@ -2,7 +2,6 @@ use mathlib.Core.Path.{ap, ◌∙◌}
 use Rattle.values.specs.Answers.{tally_says}
 use Rattle.values.proofs.NameLaws.{named_some}
 use Rattle.signatures.proofs.AttributeLaws.{default_nameless, default_twice, default_refused, default_kept}
-use borrow.Author.Rules.{rules}
 use Rattle.signatures.proofs.defaults.default_name.Goals as goal
 
 pub returns-in_default : goal.returns-in_default

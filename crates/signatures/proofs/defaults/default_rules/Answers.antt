@@ -1,7 +1,6 @@
 use mathlib.Core.Path.{◌∙◌}
 use Rattle.values.specs.Answers.{ruling_says}
 use Rattle.signatures.proofs.AttributeLaws.{default_refers, default_bad, default_good}
-use borrow.Author.Rules.{rules}
 use Rattle.signatures.proofs.defaults.default_rules.Goals as goal
 
 pub returns-then-reference-ne0 : goal.returns-then-reference-ne0

@@ -1,20 +1,13 @@
 use Prim.Native.Nat.{◌-◌}
-use native.Mathlib.Omega.{arith}
-use mathlib.Core.Path.{sym, subst, ◌∙◌}
 use mathlib.Core.List.{map}
 use Rattle.wire.specs.Message.{text}
-use Rattle.wire.proofs.Along.{along_contents}
 use Rattle.varint.proofs.Tells.{Any}
 use Rattle.schema.specs.Numbers.{Function-attribute_proto}
-use Rattle.index.specs.Listing.{Listed, Held}
-use Rattle.index.proofs.ListingLaws.{held_all, held_fewer, held_then}
-use Rattle.values.specs.Answers.{tally_says}
-use Rattle.values.proofs.TallyLaws.{Tallying, tallying_start, tallying_done, tallying_stops, tallying_goes, tallying_falls}
-use Rattle.headers.proofs.BehindLaws.{Behind, behind_start, behind_found, behind_next, behind_done}
-use Rattle.signatures.specs.Signature.{default_again, default_names, attributes_says, lists_all}
-use Rattle.signatures.proofs.AnswerLaws.{listing_as, listing_none}
-use Rattle.signatures.proofs.CountLaws.{default_few, defaults_few, tallied_few, tallied_sum}
-use Rattle.signatures.proofs.AroundLaws.{Attributes, named, before_second, all_first, all_second}
+use Rattle.index.specs.Listing.{Held}
+use Rattle.values.proofs.TallyLaws.{Tallying}
+use Rattle.headers.proofs.BehindLaws.{Behind}
+use Rattle.signatures.specs.Signature.{default_again, default_names}
+use Rattle.signatures.proofs.AroundLaws.{Attributes, named}
 use Rattle.signatures.proofs.defaults.defaults.Given as goal
 
 abbrev pub invariant-loop-a : goal.invariant-loop-a

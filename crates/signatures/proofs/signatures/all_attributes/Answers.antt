@@ -4,7 +4,6 @@ use Rattle.index.proofs.ListingLaws.{held_then}
 use Rattle.signatures.proofs.AnswerLaws.{refused_none, told_listed, told_few, counting_as, counting_lists, room}
 use Rattle.signatures.proofs.CountLaws.{attributes_few, defaults_few, names_both}
 use Rattle.signatures.proofs.SignatureLaws.{attributes_refused, attributes_listed}
-use borrow.Author.Rules.{rules}
 use Rattle.signatures.proofs.signatures.all_attributes.Goals as goal
 
 pub returns-in_default : goal.returns-in_default

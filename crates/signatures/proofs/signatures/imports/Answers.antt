@@ -1,9 +1,7 @@
 use mathlib.Core.Path.{◌∙◌}
-use borrow.Author.Tests.{not-true, not-false}
 use Rattle.index.proofs.ListingLaws.{held_all}
 use Rattle.headers.proofs.ImportLaws.{imports_from}
 use Rattle.signatures.proofs.SignatureLaws.{imports_none, imports_some}
-use borrow.Author.Rules.{rules}
 use Rattle.signatures.proofs.signatures.imports.Goals as goal
 
 pub returns-then-not-has : goal.returns-then-not-has

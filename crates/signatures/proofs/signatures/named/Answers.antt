@@ -5,7 +5,6 @@ use Rattle.index.proofs.ListingLaws.{held_all}
 use Rattle.signatures.proofs.AnswerLaws.{listing_as, listing_none, counting_as, counting_lists, room}
 use Rattle.signatures.proofs.CountLaws.{name_few, attributes_few, defaults_few, names_both}
 use Rattle.signatures.proofs.SignatureLaws.{read_tally, function_misnamed, function_twice, function_once, tally_fails}
-use borrow.Author.Rules.{rules}
 use Rattle.signatures.proofs.signatures.named.Goals as goal
 
 pub returns-in_default : goal.returns-in_default

@@ -3,7 +3,6 @@ use Rattle.index.proofs.ListingLaws.{listed_held, held_fewer, held_then}
 use Rattle.signatures.specs.Signature.{signature_says, declares}
 use Rattle.signatures.proofs.AnswerLaws.{told_listed, told_few}
 use Rattle.signatures.proofs.SignatureLaws.{held_imports, signature_refused, signature_unimported, signature_imported}
-use borrow.Author.Rules.{rules}
 use Rattle.signatures.proofs.signatures.read_signature.Goals as goal
 
 pub imports-requires : goal.imports-requires
