@@ -27,7 +27,6 @@ use Rattle.rules.proofs.FunctionCounting.{grew_function_input, grew_function_out
 use Rattle.rules.proofs.NamesFew.{odds_few}
 use Rattle.values.specs.Answers.{tally_says, Addable}
 use Rattle.values.specs.declared.tallies.Tally.{Tally}
-use Rattle.values.specs.declared.tallies.Tally.TheVariants as tally
 use Rattle.values.proofs.TallyLaws.{tally_few, addable}
 use Rattle.scope.specs.Scope.{scope_in, walk_in, step_says, counting, Countable, grows, Enters, counted, Keeps}
 use Rattle.scope.specs.declared.scopes.Step.{Step}

@@ -1,28 +1,15 @@
-use Prim.Native.Nat.{ℕ, ◌-◌, ◌<◌}
 use mathlib.Core.Path.{sym, ◌∙◌, refl}
-use mathlib.Core.Bool.{false}
-use lib.ListN.{length}
-use borrow.Author.Tests.{not-true, not-false}
-use Rattle.varint.specs.Outcome.{each}
+use borrow.Author.Tests.{not-false}
 use Rattle.varint.proofs.Lists.{true_T}
 use Rattle.wire.specs.Answers.{contents_of}
-use Rattle.wire.proofs.Along.{all_from}
-use Rattle.rules.specs.Node.{body}
-use Rattle.rules.specs.Count.{names_in, node_names, attribute_names}
-use Rattle.messages.specs.Around.{imports_of, attributes_of}
-use Rattle.scope.specs.Scope.{walk_in}
-use Rattle.scope.specs.Recall.{Minds, Minded}
 use Rattle.scope.proofs.RecallLaws.{minded_none, minded_then, minds_still, minded_fewer, minds_higher, minded_recalled}
 use Rattle.schema.proofs.Opened.{attribute_body, graph_node, node_attribute}
-use Rattle.cycle.proofs.CycleLaws.{Going, enters_low, own_contents, going_start, going_falls, going_enters, going_shorter, going_countable, going_goes}
+use Rattle.cycle.proofs.CycleLaws.{enters_low, own_contents, going_start, going_falls, going_enters, going_shorter, going_countable, going_goes}
 use Rattle.cycle.proofs.PromiseLaws.{promised_and, enters_first, stopped_counts}
-use Rattle.cycle.proofs.AttributeLaws.{Nested, inner_judged, inner_countable, inner_minds, inner_nodes, attribute_fits, attribute_stops, attribute_first, attribute_plain, bodies_countable, bodies_done, bodies_stop, bodies_go}
+use Rattle.cycle.proofs.AttributeLaws.{inner_judged, inner_countable, inner_minds, inner_nodes, attribute_fits, attribute_stops, attribute_first, attribute_plain, bodies_countable, bodies_done, bodies_stop, bodies_go}
 use native.Mathlib.Omega.{arith}
-use Rattle.schema.specs.Numbers.{Graph-node, Node-name, Node-attribute, Attribute-name}
-use Rattle.rules.specs.Verdict.{fills}
-use Rattle.messages.specs.Again.{node_again, attribute_again}
 use Rattle.scope.proofs.ScopeLaws.{keeps_all}
-use Rattle.parts.proofs.ListsLaws.{Lists, lists_start, lists_fits, lists_found, lists_next, lists_minds}
+use Rattle.parts.proofs.ListsLaws.{lists_start, lists_fits, lists_found, lists_next, lists_minds}
 use Rattle.cycle.proofs.GraphLaws.{opening_countable, outputs_room, nodes_countable, outputs_fit, nodes_count, graph_deep, graph_unopened, first_low, nodes_stop, nodes_done}
 use Rattle.cycle.proofs.NodeLaws.{node_inputs_room, node_fits, node_stops, node_first, attributes_countable, closing_countable, attributes_count, attributes_stop, attributes_done, node_low}
 use Rattle.cycle.proofs.graphs.+attribute_graph_node.Goals as goal

@@ -2,7 +2,6 @@ use mathlib.Core.Path.{◌∙◌}
 use Rattle.scope.proofs.RecallLaws.{minded_recalled, minded_then, minds_still}
 use Rattle.cycle.proofs.PromiseLaws.{promised_and}
 use Rattle.functions.proofs.BodyLaws.{inputs_countable, body_unbound, body_enters, body_nodes_countable, body_stops, body_fits, body_done}
-use borrow.Author.Rules.{rules}
 use Rattle.functions.proofs.bodies.body.Goals as goal
 
 pub inputs-bound-requires : goal.inputs-bound-requires

@@ -1,25 +1,18 @@
 use Prim.Native.Nat.{◌-◌}
-use mathlib.Core.Path.{refl, ◌∙◌}
 use mathlib.Core.Bool.{false}
 use lib.ListN.{length}
 use Rattle.varint.specs.Outcome.{each}
-use Rattle.wire.specs.Answers.{contents_of}
 use Rattle.wire.proofs.Along.{all_from}
 use Rattle.schema.specs.Numbers.{Function-node, Node-name}
-use Rattle.schema.proofs.Opened.{function_node}
 use Rattle.rules.specs.Verdict.{fills}
 use Rattle.rules.specs.Count.{node_names, names_in}
 use Rattle.scope.specs.Scope.{walk_in}
 use Rattle.scope.specs.Recall.{Minds}
-use Rattle.scope.proofs.RecallLaws.{minded_then, minded_fewer, minds_higher}
 use Rattle.messages.specs.Around.{imports_of, attributes_of}
 use Rattle.messages.specs.Again.{node_again}
-use Rattle.parts.proofs.ListsLaws.{Lists, lists_start, lists_fits, lists_found, lists_next, lists_minds}
-use Rattle.cycle.proofs.CycleLaws.{Going, enters_low, own_contents, going_start, going_falls, going_enters, going_countable, going_goes}
-use Rattle.cycle.proofs.PromiseLaws.{promised_and, loop_done, loop_stops}
+use Rattle.parts.proofs.ListsLaws.{Lists}
+use Rattle.cycle.proofs.CycleLaws.{Going}
 use Rattle.cycle.proofs.AttributeLaws.{Nested}
-use Rattle.cycle.proofs.GraphLaws.{nodes_count}
-use Rattle.functions.proofs.BodyLaws.{nodes_by, nodes_countable}
 use Rattle.functions.proofs.bodies.nodes.Given as goal
 
 abbrev pub invariant-loop-n : goal.invariant-loop-n

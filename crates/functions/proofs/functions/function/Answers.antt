@@ -3,7 +3,6 @@ use Rattle.scope.proofs.RecallLaws.{recalling_held, recalling_without}
 use Rattle.functions.proofs.FunctionLaws.{function_unread, function_begun, begun_fits, begun_enters, begun_minds, begun_countable, begun_counts}
 use Rattle.scope.specs.Scope.{counted}
 use Rattle.functions.specs.Function.{within}
-use borrow.Author.Rules.{rules}
 use Rattle.functions.proofs.functions.function.Goals as goal
 
 pub head-requires : goal.head-requires

@@ -1,6 +1,5 @@
 use Rattle.scope.proofs.SplitLaws.{others_lent, held_on}
 use Rattle.functions.proofs.FunctionLaws.{declares_on}
-use borrow.Author.Rules.{rules}
 use Rattle.functions.proofs.functions.head.Goals as goal
 
 pub read_signature-requires : goal.read_signature-requires

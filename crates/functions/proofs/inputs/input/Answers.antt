@@ -8,7 +8,6 @@ use Rattle.scope.proofs.StepLaws.{odd_grows, odd_keeps}
 use Rattle.messages.specs.Again.{field_names}
 use Rattle.nodes.proofs.OutputLaws.{odd_says}
 use Rattle.functions.proofs.InputLaws.{input_bad, input_new}
-use borrow.Author.Rules.{rules}
 use Rattle.functions.proofs.inputs.input.Goals as goal
 
 pub with_odd-requires : goal.with_odd-requires

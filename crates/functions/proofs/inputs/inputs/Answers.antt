@@ -1,19 +1,9 @@
-use Prim.Native.Nat.{◌-◌}
 use mathlib.Core.Path.{◌∙◌}
-use lib.ListN.{length}
-use Rattle.varint.specs.Outcome.{each}
-use Rattle.wire.proofs.Along.{all_from, along_start, along_contents}
-use Rattle.schema.specs.Numbers.{Function-input}
-use Rattle.rules.specs.Verdict.{fills}
-use Rattle.rules.specs.Function.{function_input}
-use Rattle.scope.specs.Scope.{walk_in}
-use Rattle.scope.specs.Recall.{Recalled}
+use Rattle.wire.proofs.Along.{along_start, along_contents}
 use Rattle.scope.proofs.RecallLaws.{recalled_none, recalled_then}
 use Rattle.scope.proofs.RecordLaws.{function_input_lem}
-use Rattle.scope.proofs.StepLaws.{Adding, adding_start, adding_done, adding_falls, adding_countable, from_contents, adding_direct, adding_stops, adding_goes}
-use Rattle.messages.specs.Again.{field_names}
+use Rattle.scope.proofs.StepLaws.{adding_start, adding_done, adding_falls, adding_countable, from_contents, adding_direct, adding_stops, adding_goes}
 use Rattle.functions.proofs.InputLaws.{input_counts}
-use borrow.Author.Rules.{rules}
 use Rattle.functions.proofs.inputs.inputs.Goals as goal
 
 pub loop-name-init : goal.loop-name-init

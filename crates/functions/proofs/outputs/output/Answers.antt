@@ -3,7 +3,6 @@ use Rattle.varint.specs.Lists.{is_empty}
 use Rattle.values.specs.Answers.{tally_says}
 use Rattle.values.proofs.NameLaws.{field_some}
 use Rattle.functions.proofs.InputLaws.{output_bad, output_visible, output_hidden}
-use borrow.Author.Rules.{rules}
 use Rattle.functions.proofs.outputs.output.Goals as goal
 
 pub returns-in_default : goal.returns-in_default

@@ -1,19 +1,13 @@
-use Prim.Native.Nat.{◌-◌}
 use native.Mathlib.Omega.{arith}
-use mathlib.Core.Path.{◌≡◌, ap, ◌∙◌}
+use mathlib.Core.Path.{ap, ◌∙◌}
 use Rattle.wire.specs.Answers.{contents_of}
 use Rattle.wire.specs.declared.Cursor.{Cursor}
 use Rattle.wire.proofs.Along.{along_contents}
 use Rattle.schema.specs.Numbers.{Function-output}
-use Rattle.rules.specs.Walk.{Walk}
-use Rattle.rules.specs.Function.{function_output}
 use Rattle.values.specs.Answers.{more, tally_says}
-use Rattle.values.proofs.TallyLaws.{Tallying, tallying_start, tallying_done, tallying_stops, tallying_goes, tallying_fits, tallying_falls}
-use Rattle.scope.specs.Scope.{scope_in}
-use Rattle.messages.specs.Again.{field_names}
+use Rattle.values.proofs.TallyLaws.{tallying_start, tallying_done, tallying_stops, tallying_goes, tallying_fits, tallying_falls}
 use Rattle.nodes.proofs.NodeCounts.{inputs_few}
 use Rattle.functions.proofs.InputLaws.{output_few}
-use borrow.Author.Rules.{rules}
 use Rattle.functions.proofs.outputs.outputs.Goals as goal
 
 pub loop-name-init : goal.loop-name-init

@@ -3,7 +3,6 @@ use Prim.Native.Nat.{ℕ}
 use mathlib.Core.Path.{sym, ap, ◌∙◌}
 use lib.ListN.{replicate}
 use Rattle.gate.proofs.IndexedLaws.{indexed_few, indexed_enough}
-use borrow.Author.Rules.{rules}
 use Rattle.gate.proofs.checks.check_indexed.Goals as goal
 
 pub returns-then-extra-cells : goal.returns-then-extra-cells

@@ -1,6 +1,5 @@
 use mathlib.Core.Path.{refl}
 use Rattle.rules.specs.Verdict.{LARGEST}
-use borrow.Author.Rules.{rules}
 use Rattle.gate.proofs.checks.is_too_large.Goals as goal
 
 pub returns : goal.returns

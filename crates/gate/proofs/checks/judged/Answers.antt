@@ -1,9 +1,7 @@
 use mathlib.Core.Path.{◌∙◌, refl, sym}
-use borrow.Author.Tests.{not-true, not-false}
 use Rattle.rules.proofs.Size.{size_fits}
 use Rattle.gate.specs.Meaning.{meaning}
 use Rattle.gate.proofs.CheckLaws.{walk_sound, verdict_large, verdict_unsound, verdict_unwalked, verdict_refused, verdict_accepted}
-use borrow.Author.Rules.{rules}
 use Rattle.gate.proofs.checks.judged.Goals as goal
 
 pub returns-then-is_too_large : goal.returns-then-is_too_large

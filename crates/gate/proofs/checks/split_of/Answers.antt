@@ -1,6 +1,5 @@
 use native.Mathlib.Omega.{arith}
 use Rattle.scope.proofs.RecordLaws.{room_few}
-use borrow.Author.Rules.{rules}
 use Rattle.gate.proofs.checks.split_of.Goals as goal
 
 pub overflow_mul-names : goal.overflow_mul-names

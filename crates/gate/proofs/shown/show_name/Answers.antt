@@ -1,6 +1,5 @@
 use native.Mathlib.Omega.{arith}
 use Rattle.gate.proofs.ShownLaws.{shown_none, shown_part}
-use borrow.Author.Rules.{rules}
 use Rattle.gate.proofs.shown.show_name.Goals as goal
 
 pub returns-then-end-start : goal.returns-then-end-start

@@ -1,6 +1,5 @@
 use Rattle.scope.proofs.SplitLaws.{others_lent, held_on}
 use Rattle.second_walk.proofs.PartLaws.{holds_on}
-use borrow.Author.Rules.{rules}
 use Rattle.second_walk.proofs.mains.head.Goals as goal
 
 pub header-requires : goal.header-requires

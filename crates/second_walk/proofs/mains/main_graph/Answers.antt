@@ -4,7 +4,6 @@ use Rattle.headers.proofs.HeaderLaws.{refused_heading, imported_heading}
 use Rattle.scope.specs.Scope.{standing}
 use Rattle.scope.proofs.RecallLaws.{recalling_held, recalling_without}
 use Rattle.second_walk.proofs.MainLaws.{main_few, main_unheaded, main_missing, main_found, main_enters, main_countable, main_minds}
-use borrow.Author.Rules.{rules}
 use Rattle.second_walk.proofs.mains.main_graph.Goals as goal
 
 pub head-heading-requires : goal.head-heading-requires

@@ -1,6 +1,5 @@
 use Rattle.scope.proofs.SplitLaws.{others_lent}
 use Rattle.second_walk.proofs.PartLaws.{added_on}
-use borrow.Author.Rules.{rules}
 use Rattle.second_walk.proofs.model_functions.add_function.Goals as goal
 
 pub add-requires : goal.add-requires

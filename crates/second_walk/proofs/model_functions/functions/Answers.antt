@@ -1,14 +1,8 @@
-use Prim.Native.Nat.{◌-◌}
 use native.Mathlib.Omega.{arith}
 use mathlib.Core.Path.{◌∙◌}
-use lib.ListN.{length}
-use Rattle.rules.specs.Verdict.{fills}
-use Rattle.scope.specs.Scope.{walk_in}
 use Rattle.scope.proofs.SplitLaws.{others_lent}
 use Rattle.identities.proofs.LoopLaws.{defining_before, defining_fits}
-use Rattle.second_walk.specs.Walks.{functions_again}
-use Rattle.second_walk.proofs.LoopLaws.{Judging, judging_start, judging_done, judging_falls, judging_enters, judging_countable, judging_stops, judging_goes}
-use borrow.Author.Rules.{rules}
+use Rattle.second_walk.proofs.LoopLaws.{judging_start, judging_done, judging_falls, judging_enters, judging_countable, judging_stops, judging_goes}
 use Rattle.second_walk.proofs.model_functions.functions.Goals as goal
 
 pub loop-f-init : goal.loop-f-init

@@ -1,7 +1,6 @@
 use mathlib.Core.Path.{sym}
 use lib.Seq.{length-take-le}
 use Rattle.second_walk.proofs.PartLaws.{first_on}
-use borrow.Author.Rules.{rules}
 use Rattle.second_walk.proofs.model_functions.judge_function.Goals as goal
 
 pub slice_bounds-function-end-2 : goal.slice_bounds-function-end-2

@@ -1,11 +1,8 @@
-use Prim.Native.Nat.{◌-◌, ◌≤◌}
 use native.Mathlib.Omega.{arith}
-use mathlib.Core.Path.{◌≡◌, refl}
-use lib.ListN.{length}
+use mathlib.Core.Path.{refl}
 use Rattle.wire.proofs.Along.{found_onward}
 use Rattle.schema.specs.Numbers.{Model-functions}
 use Rattle.second_walk.proofs.LoopLaws.{onward_fits}
-use borrow.Author.Rules.{rules}
 use Rattle.second_walk.proofs.tables.table_at.Goals as goal
 
 pub loop-f-init : goal.loop-f-init

@@ -1,10 +1,6 @@
 use Prim.Native.Nat.{◌-◌, ◌≤◌}
-use native.Mathlib.Omega.{arith}
-use mathlib.Core.Path.{◌≡◌, refl}
+use mathlib.Core.Path.{◌≡◌}
 use lib.ListN.{length}
-use Rattle.wire.proofs.Along.{found_onward}
-use Rattle.schema.specs.Numbers.{Model-functions}
-use Rattle.second_walk.proofs.LoopLaws.{onward_fits}
 use Rattle.second_walk.proofs.tables.table_at.Given as goal
 
 abbrev pub invariant-loop-f : goal.invariant-loop-f

@@ -1,7 +1,6 @@
 use mathlib.Core.Path.{◌∙◌}
 use Rattle.wire.proofs.MessageLaws.{number_in}
 use Rattle.wire.proofs.OutlineLaws.{started_first}
-use borrow.Author.Rules.{rules}
 use Rattle.second_walk.proofs.walks.ir_version.Goals as goal
 
 pub returns : goal.returns

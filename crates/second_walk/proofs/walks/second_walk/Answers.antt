@@ -4,7 +4,6 @@ use lib.Seq.{length-take-le}
 use Rattle.second_walk.proofs.PartLaws.{first_on}
 use Rattle.second_walk.proofs.ZeroLaws.{recalling_none, defining_none}
 use Rattle.second_walk.proofs.WalkLaws.{walk_stops, walk_goes, walk_few}
-use borrow.Author.Rules.{rules}
 use Rattle.second_walk.proofs.walks.second_walk.Goals as goal
 
 pub slice_bounds-main_graph-end-2 : goal.slice_bounds-main_graph-end-2
