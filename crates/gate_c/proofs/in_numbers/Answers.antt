@@ -1,6 +1,5 @@
 use mathlib.Core.Path.{refl}
 use Rattle.gate_c.proofs.ExportLaws.{outcome_accepted, outcome_refused}
-use borrow.Author.Rules.{rules}
 use Rattle.gate_c.proofs.in_numbers.Goals as goal
 
 pub returns-in-Accepted : goal.returns-in-Accepted

@@ -1,6 +1,5 @@
 use mathlib.Core.Path.{ap, ◌∙◌}
 use Rattle.gate_c.specs.Exports.{outcome}
-use borrow.Author.Rules.{rules}
 use Rattle.gate_c.proofs.onnx_gate_check.Goals as goal
 
 pub returns : goal.returns

@@ -1,6 +1,5 @@
 use native.Mathlib.Omega.{arith}
 use Rattle.gate_c.proofs.ExportLaws.{at_none, at_part}
-use borrow.Author.Rules.{rules}
 use Rattle.gate_c.proofs.onnx_gate_show_name.Goals as goal
 
 pub returns-then-end-start : goal.returns-then-end-start
