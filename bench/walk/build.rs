@@ -1,4 +1,4 @@
-//! Links the archive that `rt staticlib walk_c` writes, and one of another clone under other names.
+//! Links the archive that `tools/prove walk_c` writes, and one of another clone under other names.
 fn main() {
     let archives = concat!(env!("CARGO_MANIFEST_DIR"), "/../../target/staticlib");
     println!("cargo:rustc-link-search=native={archives}");

@@ -7,10 +7,7 @@ here=$(cd "$(dirname "$0")" && pwd -P)
 root=$(cd "$here/../.." && pwd -P)
 archive=$root/target/staticlib/libgate_c.a
 made=$here/onnx_gate/libonnx_gate.so
-if [ ! -f "$archive" ] || [ -n "$(find "$root/crates" "$root/crates.txt" -newer "$archive" -print | head -n 1)" ]; then
-    (cd "$root" && rt staticlib gate_c >&2)
-    touch "$archive"
-fi
+if ! "$root/tools/fresh" "$archive"; then "$root/tools/prove" gate_c >&2; fi
 trap 'rm -f "$made.new"' EXIT
 gcc -shared -fPIC -O2 -o "$made.new" "$root/bindings/c/sizing.c" -Wl,--no-undefined -Wl,--whole-archive "$archive" -Wl,--no-whole-archive
 mv "$made.new" "$made"

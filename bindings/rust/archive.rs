@@ -1,4 +1,5 @@
 //! Which libgate_c.a is linked, for build scripts: that of this repository, or the one that GATE_LIB_DIR names on purpose.
+use std::ffi::OsStr;
 use std::path::{Path, PathBuf};
 use std::time::SystemTime;
 
@@ -32,14 +33,14 @@ fn named() -> Option<Result<PathBuf, String>> {
     Some(Ok(folder))
 }
 
-/// What `rt staticlib gate_c` wrote here, unless it is older than what it was made from.
+/// What `tools/prove gate_c` put here, unless it is older than what it was made from.
 fn built(root: &Path) -> Result<PathBuf, String> {
     let folder = root.join("target/staticlib");
     let archive = folder.join("libgate_c.a");
-    let sources = [root.join("crates"), root.join("crates.txt")];
+    let sources = sources(root);
     sources.iter().for_each(|source| println!("cargo:rerun-if-changed={}", source.display()));
     let remedy =
-        "run `rt staticlib gate_c` at the repository's root, or set GATE_LIB_DIR to the folder of another archive";
+        "run `tools/prove gate_c` at the repository's root, or set GATE_LIB_DIR to the folder of another archive";
     let Some(made) = changed(&archive) else {
         return Err(format!("{} is missing: {remedy}.", archive.display()));
     };
@@ -49,6 +50,21 @@ fn built(root: &Path) -> Result<PathBuf, String> {
     }
 }
 
+/// crates.txt, and what lies in each folder of crates/, but for out/, where rt keeps its work.
+fn sources(root: &Path) -> Vec<PathBuf> {
+    let parts =
+        inside(&root.join("crates"))
+            .into_iter()
+            .flat_map(|path| if path.is_dir() { inside(&path) } else { vec![path] });
+    let kept = parts.filter(|path| path.file_name() != Some(OsStr::new("out")));
+    kept.chain([root.join("crates.txt")]).collect()
+}
+
+/// What lies in a folder; nothing where it cannot be read.
+fn inside(folder: &Path) -> Vec<PathBuf> {
+    folder.read_dir().map_or(Vec::new(), |entries| entries.filter_map(Result::ok).map(|entry| entry.path()).collect())
+}
+
 fn changed(path: &Path) -> Option<SystemTime> {
     path.metadata().and_then(|about| about.modified()).ok()
 }
@@ -56,8 +72,7 @@ fn changed(path: &Path) -> Option<SystemTime> {
 /// A file at or below `path` that changed later than that.
 fn newer(path: &Path, than: SystemTime) -> Option<PathBuf> {
     if path.is_dir() {
-        let inside = path.read_dir().ok()?.filter_map(Result::ok);
-        return inside.map(|entry| entry.path()).find_map(|path| newer(&path, than));
+        return inside(path).iter().find_map(|path| newer(path, than));
     }
     changed(path).filter(|time| *time > than).map(|_| path.to_path_buf())
 }

@@ -1,12 +1,15 @@
 # shellcheck shell=bash disable=SC2154,SC2035
-# The script ./gate, in a copy whose path has a space in it. `rt` is one of our own: nothing is proved here.
+# The script ./gate, in a copy whose path has a space in it. `rt` is one of our own, which works in crates/gate_c: nothing is proved here.
 
 test_gate() {
     copy="$work/a copy"
     mkdir -p "$copy/target/staticlib" "$copy/bindings" bin "in between"
-    cp -r "$root"/{gate,crates,crates.txt,examples} "$copy"
+    cp -r "$root"/{gate,tools,crates.txt,examples} "$copy"
+    # without the folders in which rt keeps its work
+    tar -C "$root" --anchored --no-wildcards-match-slash --exclude='crates/*/out' -c crates | tar -C "$copy" -x
     copied_rust
     cp "$root/target/staticlib/libgate_c.a" "$copy/target/staticlib"
+    cp "$root/target/staticlib/libgate_c.a" proved.a
     touch "$copy/target/staticlib/libgate_c.a"
     printf '#!/bin/sh\necho rt is not to be called\nexit 1\n' >bin/rt && chmod +x bin/rt
     local PATH=$PWD/bin:$PATH
@@ -79,17 +82,24 @@ stale_command() {
 }
 
 stale_library() {
+    local made
+    made="cp $(printf %q "$PWD/proved.a") out/libgate_c.a"
     touch "$copy/crates/gate/src/checks.rt"
+    # what rt wrote before a proof failed
+    mkdir "$copy/crates/gate_c/out" && (cd "$copy/crates/gate_c" && eval "$made")
     printf '#!/bin/sh\nseq 1000\nexit 1\n' >bin/rt
     expect 2 '' $'gate: proving the library*five minutes*\n981\n*1000\ngate: the library is not proved*' ./linked good.onnx
     # one line and no progress, once
-    printf '#!/bin/sh\nseq 1000\n' >bin/rt
+    printf '#!/bin/sh\nseq 1000\n%s\n' "$made" >bin/rt
     expect 0 '*: accepted*' 'gate: proving the library*five minutes on two cores, once' ./linked good.onnx
     expect 0 '*: accepted*' '' ./linked good.onnx
+    # what rt keeps is no source
+    touch "$copy/crates/gate_c/out/kept"
+    expect 0 '*: accepted*' '' ./linked good.onnx
     # a source that changes while it is proved is proved again
-    printf '#!/bin/sh\nsleep 0.1\ntouch crates/gate/src/checks.rt\n' >bin/rt && touch "$copy/crates.txt"
+    printf '#!/bin/sh\nsleep 0.1\ntouch ../gate/src/checks.rt\n%s\n' "$made" >bin/rt && touch "$copy/crates.txt"
     expect 0 '*: accepted*' 'gate: proving*' ./linked good.onnx
     expect 0 '*: accepted*' 'gate: proving*' ./linked good.onnx
-    printf '#!/bin/sh\nrm -f target/staticlib/libgate_c.a\n' >bin/rt && touch "$copy/crates.txt"
+    printf '#!/bin/sh\nexit 0\n' >bin/rt && touch "$copy/crates.txt"
     expect 2 '' '*rt wrote no library*' ./linked good.onnx
 }

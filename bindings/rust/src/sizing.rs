@@ -95,7 +95,7 @@ impl Options {
             let lists = need.lists(cells / CELLS_PER_NAME);
             let (mut own, mut extra) = (zeroed(cells)?, zeroed(self.extra(cells, lists))?);
             let answer = check_indexed(model, operators, &mut own, &mut extra, seed);
-            // `enoughCells` in crates/rules/specs/Demands.antt: with more cells an answer stays, unless it is a 40
+            // `enough_cells` in crates/rules/specs/Demands.antt: with more cells an answer stays, unless it is a 40
             match next(cells, counted, most) {
                 Some(more) if matches!(answer, Err(refusal) if refusal.number == 40) => cells = more,
                 _ => return Ok(Checked { answer, cells }),
