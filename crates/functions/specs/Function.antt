@@ -1,4 +1,4 @@
--- A function as the code judges it. No rule speaks of this; contracts of the code do, and `function-again` in `second_walk` says that it is the
+-- A function as the code judges it. No rule speaks of this; contracts of the code do, and `function_again_lem` in `second_walk` says that it is the
 -- function of document 02.
 use Rattle.std.specs.Prelude.{ℕ, Bool, true, false}
 use mathlib.Core.List.{List, ◌++◌, flat_map}

@@ -1,5 +1,5 @@
 -- The second walk as the code makes it. Nothing is kept of the names that stood earlier in a list, nor of the imports: they are read
--- again where they stand. No rule speaks of this; contracts of the code do, and `graph-again` in `second_walk` says
+-- again where they stand. No rule speaks of this; contracts of the code do, and `graph_again_lem` in `second_walk` says
 -- that it is the second walk of document 01.
 use Rattle.std.specs.Prelude.{ℕ, zero, suc, Bool, not}
 use mathlib.Core.List.{List, [], ◌∷◌, ◌++◌, flat_map}

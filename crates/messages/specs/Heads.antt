@@ -1,5 +1,5 @@
 -- What the code asks of an attribute or a node before anything that needs a scope. No rule speaks of this; contracts of the code do, and
--- `graph-again` in `second_walk` says that a walk which asks so is the second walk of document 01.
+-- `graph_again_lem` in `second_walk` says that a walk which asks so is the second walk of document 01.
 use Rattle.std.specs.Prelude.{not}
 use Rattle.varint.specs.Outcome.{pass, ◌>>=◌, ◌>>◌, Judged, Rule, refuse◌at:◌when:◌}
 use Rattle.wire.specs.declared.Field.{Field}

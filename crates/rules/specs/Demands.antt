@@ -1,4 +1,4 @@
--- What is claimed of the definitions, as types. Each is proved in proofs/ under the name of its type with a small first letter.
+-- What is claimed of the definitions, as types. Each is proved in proofs/ under the name of its type in snake case.
 use Rattle.std.specs.Prelude.{ℕ, ◌+◌, ◌-◌, ◌^◌, ◌≤◌, ◌<◌, min, ◌≡◌, ◌↔◌, ◌⊎◌, Bool, true, false, length, replicate, T}
 use mathlib.Core.List.{List, [], ◌∷◌, ◌++◌, map, flat_map, Memᴰ}
 use Rattle.std.proofs.Math.Option.{none, some}

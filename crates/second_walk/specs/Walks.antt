@@ -1,4 +1,4 @@
--- The second walk in the parts that the code makes of it. No rule speaks of this; contracts of the code do, and `functions-again` in proofs/FunctionAgain.antt
+-- The second walk in the parts that the code makes of it. No rule speaks of this; contracts of the code do, and `functions_again_lem` in proofs/FunctionAgain.antt
 -- says that the second part is that of document 02.
 use Rattle.std.specs.Prelude.{ℕ, ◌*◌, ◌^◌, ◌≤◌, Bool, map}
 use Rattle.std.proofs.Math.Option.{none, some}

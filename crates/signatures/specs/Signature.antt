@@ -1,5 +1,5 @@
 -- What a function says before its body, as the code reads it: nothing is kept of the names that stood earlier, they are read again where they stand. No rule
--- speaks of this; contracts of the code do, and `head-again` in proofs/HeadLaws.antt says that it is the head of a function.
+-- speaks of this; contracts of the code do, and `head_again` in proofs/HeadLaws.antt says that it is the head of a function.
 use Rattle.std.specs.Prelude.{ℕ, ◌+◌, ◌^◌, ◌≤◌, ◌<◌, Bool, not, length}
 use mathlib.Core.List.{List, [], ◌∷◌, ◌++◌, flat_map}
 use Rattle.varint.specs.Outcome.{pass, fail, ◌>>=◌, ◌>>◌, each, Judged, Rule, refuse◌at:◌when:◌}

@@ -3,4 +3,4 @@ use Rattle.operators.specs.Operators.{domain}
 use Rattle.identities.proofs.functions.domain_of.Goals as goal
 
 pub returns : goal.returns
-returns c = c.canonical.ensures ∙ ap domain c.bytes_of.ensures
+returns c = cc

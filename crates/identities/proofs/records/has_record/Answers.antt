@@ -1,4 +1,5 @@
 use Rattle.identities.proofs.RecordLaws.{search_start, search_here, search_less, search_next, search_end, search_none}
+use Rattle.std.proofs.Common.{rules}
 use Rattle.identities.proofs.records.has_record.Goals as goal
 
 pub returns-then-used-eq0 : goal.returns-then-used-eq0
@@ -11,11 +12,11 @@ pub returns-then-has_identity : goal.returns-then-has_identity
 returns-then-has_identity c = search_here c.loop-i.invariant c.loop-i-test.true c.function_of-f.ensures c.has_identity.ensures c.if-has_identity.true
 
 pub loop-i-smaller : goal.loop-i-smaller
-loop-i-smaller c = search_less c.requires c.capacity-size.ensures.0 c.loop-i.invariant c.loop-i-test.true c.cell-i-in-loop-i.ensures.0
+loop-i-smaller c = search_less c.requires c.capacity-size.ensures.0 c.loop-i.invariant c.loop-i-test.true (search rules)
 
 pub loop-i-preserved : goal.loop-i-preserved
 loop-i-preserved c =
-    search_next c.requires c.capacity-size.ensures.0 c.loop-i.invariant c.loop-i-test.true c.cell-i-in-loop-i.ensures.0
+    search_next c.requires c.capacity-size.ensures.0 c.loop-i.invariant c.loop-i-test.true (search rules)
     c.function_of-f.ensures c.has_identity.ensures c.if-has_identity.false
 
 pub returns : goal.returns
