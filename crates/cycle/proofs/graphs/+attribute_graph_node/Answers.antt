@@ -66,7 +66,7 @@ attribute-graph-step-requires t c =
       going_shorter g c.next_of-sought.ensures c.in-Found.is c.decreases,
       (
         going_enters g c.next_of-sought.ensures c.in-Found.is c.requires.enters.short c.requires.enters.walked
-            (own_contents c.args.f) (attribute_body _ (true_T _ (sym c.is_body.ensures ∙ not-false _ c.if-not-is_body.false-raw)))
+            (own_contents c.args.f) (attribute_body _ (true_T _ (sym c.is_body.ensures ∙ c.if-not-is_body.false)))
             (enters_low (enters_first {first = c.in-Went.first} first.0 first.1 c.requires.enters)),
         (
           inner_minds c.args.s c.nested.ensures _ c.loop-g.invariant.1,

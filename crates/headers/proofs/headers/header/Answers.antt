@@ -28,8 +28,7 @@ returns-then-not-has_from c =
 pub returns-then-not-has_from-2 : goal.returns-then-not-has_from-2
 returns-then-not-has_from-2 c =
     record {
-      answer = c.unheaded-then-not-has_from-2.ensures.answer ∙ header_import _ _ c.whole-m.ensures c.number_from.ensures c.is_ir_version.ensures (not-false _
-          c.if-not-is_ir_version.false-raw) c.has_from.ensures c.if-not-has_from.false c.has_from-2.ensures c.if-not-has_from-2.true;
+      answer = c.unheaded-then-not-has_from-2.ensures.answer ∙ header_import _ _ c.whole-m.ensures c.number_from.ensures c.is_ir_version.ensures c.if-not-is_ir_version.false c.has_from.ensures c.if-not-has_from.false c.has_from-2.ensures c.if-not-has_from-2.true;
       imported = c.unheaded-then-not-has_from-2.ensures.imported _ _ _ _ _ _;
       held = held_all c.requires.indexed (omega arith);
     }

@@ -4,6 +4,7 @@ use Rattle.varint.proofs.Lists.{subset}
 use Rattle.schema.specs.declared.Kind.TheVariants.{Attribute}
 use Rattle.schema.specs.Rows.{Rows-computes}
 use Rattle.schema.proofs.RowLaws.{row_at, row_unknown, numbers}
+use Rattle.std.proofs.Common.{rules}
 use Rattle.schema.proofs.rows.attribute_row.Goals as goal
 
 pub returns-in-1 : goal.returns-in-1
@@ -76,4 +77,4 @@ returns-in-23 c = row_at Attribute 23 c.in-23.is
 
 pub returns-in_default : goal.returns-in_default
 unfolding Rows-computes contains subset numbers
-returns-in_default c = row_unknown Attribute (23 ∷ 22 ∷ 21 ∷ 20 ∷ 15 ∷ 14 ∷ 11 ∷ 10 ∷ 9 ∷ 8 ∷ 7 ∷ 6 ∷ 5 ∷ 4 ∷ 3 ∷ 2 ∷ 1 ∷ []) c.args.number tt c.in_default.in_default-own.rest
+returns-in_default c = row_unknown Attribute (23 ∷ 22 ∷ 21 ∷ 20 ∷ 15 ∷ 14 ∷ 11 ∷ 10 ∷ 9 ∷ 8 ∷ 7 ∷ 6 ∷ 5 ∷ 4 ∷ 3 ∷ 2 ∷ 1 ∷ []) c.args.number tt (search rules)

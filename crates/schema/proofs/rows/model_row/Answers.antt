@@ -4,6 +4,7 @@ use Rattle.varint.proofs.Lists.{subset}
 use Rattle.schema.specs.declared.Kind.TheVariants.{Model}
 use Rattle.schema.specs.Rows.{Rows-computes}
 use Rattle.schema.proofs.RowLaws.{row_at, row_unknown, numbers}
+use Rattle.std.proofs.Common.{rules}
 use Rattle.schema.proofs.rows.model_row.Goals as goal
 
 pub returns-in-1 : goal.returns-in-1
@@ -24,4 +25,4 @@ returns-in-25 c = row_at Model 25 c.in-25.is
 
 pub returns-in_default : goal.returns-in_default
 unfolding Rows-computes contains subset numbers
-returns-in_default c = row_unknown Model (25 ∷ 8 ∷ 7 ∷ 1 ∷ []) c.args.number tt c.in_default.in_default-own.rest
+returns-in_default c = row_unknown Model (25 ∷ 8 ∷ 7 ∷ 1 ∷ []) c.args.number tt (search rules)

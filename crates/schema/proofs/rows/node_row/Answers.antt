@@ -4,6 +4,7 @@ use Rattle.varint.proofs.Lists.{subset}
 use Rattle.schema.specs.declared.Kind.TheVariants.{Node}
 use Rattle.schema.specs.Rows.{Rows-computes}
 use Rattle.schema.proofs.RowLaws.{row_at, row_unknown, numbers}
+use Rattle.std.proofs.Common.{rules}
 use Rattle.schema.proofs.rows.node_row.Goals as goal
 
 pub returns-in-1 : goal.returns-in-1
@@ -32,4 +33,4 @@ returns-in-7 c = row_at Node 7 c.in-7.is
 
 pub returns-in_default : goal.returns-in_default
 unfolding Rows-computes contains subset numbers
-returns-in_default c = row_unknown Node (7 ∷ 5 ∷ 4 ∷ 3 ∷ 2 ∷ 1 ∷ []) c.args.number tt c.in_default.in_default-own.rest
+returns-in_default c = row_unknown Node (7 ∷ 5 ∷ 4 ∷ 3 ∷ 2 ∷ 1 ∷ []) c.args.number tt (search rules)

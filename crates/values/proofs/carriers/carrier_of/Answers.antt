@@ -3,6 +3,7 @@ use Rattle.varint.specs.Lists.{contains, lookup}
 use Rattle.varint.proofs.Lists.{subset}
 use Rattle.rules.specs.Node.{carriers}
 use Rattle.values.proofs.CarrierLaws.{carrier_at, carrier_none}
+use Rattle.std.proofs.Common.{rules}
 use Rattle.values.proofs.carriers.carrier_of.Goals as goal
 
 pub returns-in-1 : goal.returns-in-1
@@ -63,4 +64,4 @@ returns-in-14 c = carrier_at 14 c.in-14.is
 
 pub returns-in_default : goal.returns-in_default
 unfolding contains lookup subset carriers
-returns-in_default c = carrier_none c.args.code (14 ∷ 13 ∷ 12 ∷ 11 ∷ 10 ∷ 9 ∷ 8 ∷ 7 ∷ 6 ∷ 5 ∷ 4 ∷ 3 ∷ 2 ∷ 1 ∷ []) tt c.in_default.in_default-own.rest
+returns-in_default c = carrier_none c.args.code (14 ∷ 13 ∷ 12 ∷ 11 ∷ 10 ∷ 9 ∷ 8 ∷ 7 ∷ 6 ∷ 5 ∷ 4 ∷ 3 ∷ 2 ∷ 1 ∷ []) tt (search rules)

@@ -3,6 +3,7 @@ use Rattle.varint.specs.Lists.{contains}
 use Rattle.varint.proofs.Lists.{subset}
 use Rattle.rules.specs.Node.{carriers, carrier_numbers}
 use Rattle.values.proofs.CarrierLaws.{contains_at, contained_none}
+use Rattle.std.proofs.Common.{rules}
 use Rattle.values.proofs.carriers.is_carrier.Goals as goal
 
 pub returns-in-2 : goal.returns-in-2
@@ -63,4 +64,4 @@ returns-in-15 c = contains_at carrier_numbers 15 c.in-15.is
 
 pub returns-in_default : goal.returns-in_default
 unfolding contains subset carriers carrier_numbers
-returns-in_default c = contained_none c.args.number carrier_numbers (15 ∷ 14 ∷ 23 ∷ 22 ∷ 11 ∷ 10 ∷ 9 ∷ 8 ∷ 7 ∷ 6 ∷ 5 ∷ 4 ∷ 3 ∷ 2 ∷ []) tt c.in_default.in_default-own.rest
+returns-in_default c = contained_none c.args.number carrier_numbers (15 ∷ 14 ∷ 23 ∷ 22 ∷ 11 ∷ 10 ∷ 9 ∷ 8 ∷ 7 ∷ 6 ∷ 5 ∷ 4 ∷ 3 ∷ 2 ∷ []) tt (search rules)

@@ -3,6 +3,7 @@ use Rattle.varint.specs.Lists.{contains}
 use Rattle.varint.proofs.Lists.{subset}
 use Rattle.rules.specs.Node.{needed}
 use Rattle.values.proofs.CarrierLaws.{contains_at, contained_none}
+use Rattle.std.proofs.Common.{rules}
 use Rattle.values.proofs.carriers.is_needed.Goals as goal
 
 pub returns-in-4 : goal.returns-in-4
@@ -23,4 +24,4 @@ returns-in-13 c = contains_at (4 ∷ 5 ∷ 11 ∷ 13 ∷ []) 13 c.in-13.is
 
 pub returns-in_default : goal.returns-in_default
 unfolding contains subset needed
-returns-in_default c = contained_none c.args.code (4 ∷ 5 ∷ 11 ∷ 13 ∷ []) (13 ∷ 11 ∷ 5 ∷ 4 ∷ []) tt c.in_default.in_default-own.rest
+returns-in_default c = contained_none c.args.code (4 ∷ 5 ∷ 11 ∷ 13 ∷ []) (13 ∷ 11 ∷ 5 ∷ 4 ∷ []) tt (search rules)
