@@ -15,7 +15,11 @@ use Rattle.cycle.proofs.NodeLaws.{node_inputs_room, node_fits, node_stops, node_
 use Rattle.cycle.proofs.graphs.+attribute_graph_node.Goals as goal
 
 pub attribute-attribute_head-requires : goal.attribute-attribute_head-requires
-attribute-attribute_head-requires t c = record { split_in_bounds = c.requires.minds.recalls.both.fits; listed = c.requires.minds.resolved; listed_2 = c.requires.listed }
+attribute-attribute_head-requires t c = record {
+  split_in_bounds = c.requires.minds.recalls.both.fits;
+  listed = c.requires.minds.resolved;
+  listed_2 = c.requires.listed;
+}
 
 pub attribute-counting-headed-requires : goal.attribute-counting-headed-requires
 attribute-counting-headed-requires t c = attribute_fits _ _ _ _ _ _ _ c.attribute_head.ensures c.requires.countable
@@ -28,7 +32,8 @@ attribute-returns-in_default t c =
 
 pub attribute-returns-then-not-is_body : goal.attribute-returns-then-not-is_body
 attribute-returns-then-not-is_body t c =
-    let rest = promised_and (attribute_plain _ _ _ _ _ _ _ _ c.attribute_head.ensures c.counting-headed.ensures c.in-Went.is c.number_of.ensures
+    let rest = promised_and (attribute_plain _ _ _ _ _ _ _ _ c.attribute_head.ensures c.counting-headed.ensures c.in-Went.is
+    c.number_of.ensures
     c.carrier_of-number.ensures c.is_body.ensures c.requires.enters c.if-not-is_body.true)
     (minded_none c.requires.minds.recalls c.requires.minds.fits) in
     record { answer = rest.0; grown = rest.1.0; counts = rest.1.1.0; kept = rest.1.1.1.0; memory = rest.1.1.1.1 }
@@ -50,7 +55,8 @@ attribute-shape_of-extra-in_default-sought t c = c.loop-g.invariant.2.size
 
 pub attribute-returns-in_default-sought : goal.attribute-returns-in_default-sought
 attribute-returns-in_default-sought t c =
-    let rest = promised_and (bodies_done _ _ _ _ _ _ _ _ c.attribute_head.ensures c.counting-headed.ensures c.in-Went.is c.number_of.ensures
+    let rest = promised_and (bodies_done _ _ _ _ _ _ _ _ c.attribute_head.ensures c.counting-headed.ensures c.in-Went.is
+    c.number_of.ensures
     c.carrier_of-number.ensures c.is_body.ensures c.if-not-is_body.false c.contents-c.ensures c.loop-g.invariant.0
     c.next_of-sought.ensures c.requires.enters c.in_default-sought.is) c.loop-g.invariant.2 in
     record { answer = rest.0; grown = rest.1.0; counts = rest.1.1.0; kept = rest.1.1.1.0; memory = rest.1.1.1.1 }
@@ -86,9 +92,11 @@ attribute-shape_of-extra-in_default-step t c = c.graph-step.ensures.memory.size 
 
 pub attribute-returns-in_default-step : goal.attribute-returns-in_default-step
 attribute-returns-in_default-step t c =
-    let rest = promised_and (bodies_stop _ _ _ _ _ _ _ _ c.attribute_head.ensures c.counting-headed.ensures c.in-Went.is c.number_of.ensures
+    let rest = promised_and (bodies_stop _ _ _ _ _ _ _ _ c.attribute_head.ensures c.counting-headed.ensures c.in-Went.is
+    c.number_of.ensures
     c.carrier_of-number.ensures c.is_body.ensures c.if-not-is_body.false c.contents-c.ensures c.loop-g.invariant.0
-    c.next_of-sought.ensures c.in-Found.is _ (inner_judged _ _ _ c.nested.ensures _ _ _ c.graph-step.ensures.answer) c.graph-step.ensures.grown c.graph-step.ensures.counts
+    c.next_of-sought.ensures c.in-Found.is _ (inner_judged _ _ _ c.nested.ensures _ _ _ c.graph-step.ensures.answer)
+    c.graph-step.ensures.grown c.graph-step.ensures.counts
     c.graph-step.ensures.kept c.in_default-step.is) (minded_then c.loop-g.invariant.2 c.graph-step.ensures.memory) in
     record { answer = rest.0; grown = rest.1.0; counts = rest.1.1.0; kept = rest.1.1.1.0; memory = rest.1.1.1.1 }
 
@@ -98,24 +106,39 @@ attribute-loop-g-smaller t c = going_falls c.loop-g.invariant.0 c.next_of-sought
 pub attribute-loop-g-preserved : goal.attribute-loop-g-preserved
 attribute-loop-g-preserved t c = (
   bodies_go _ _ _ _ _ _ _ _ c.attribute_head.ensures c.counting-headed.ensures c.in-Went.is c.number_of.ensures
-      c.carrier_of-number.ensures c.is_body.ensures c.if-not-is_body.false c.contents-c.ensures c.loop-g.invariant.0 c.next_of-sought.ensures
-      c.in-Found.is _ (inner_judged _ _ _ c.nested.ensures _ _ _ c.graph-step.ensures.answer) c.graph-step.ensures.grown c.graph-step.ensures.counts c.graph-step.ensures.kept
+      c.carrier_of-number.ensures c.is_body.ensures c.if-not-is_body.false c.contents-c.ensures c.loop-g.invariant.0
+      c.next_of-sought.ensures
+      c.in-Found.is _ (inner_judged _ _ _ c.nested.ensures _ _ _ c.graph-step.ensures.answer) c.graph-step.ensures.grown
+      c.graph-step.ensures.counts c.graph-step.ensures.kept
       c.in-Went-step.is c.leaving-q.ensures,
   minds_still c.loop-g.invariant.1 c.graph-step.ensures.memory,
   minded_then c.loop-g.invariant.2 c.graph-step.ensures.memory,
 )
 
 pub graph-returns-then-left-eq0 : goal.graph-returns-then-left-eq0
-graph-returns-then-left-eq0 t c = record { answer = c.stopped.ensures.answer _ _ ∙ (let a = c.args in graph_deep _ _ a.s a.cells.now a.p a.f c.if-left-eq0.true); grown = c.stopped.ensures.grown _; counts = stopped_counts _ _ _ c.stopped.ensures.answer; kept = keeps_all _ _; memory = minded_none c.requires.minds.recalls c.requires.minds.fits }
+graph-returns-then-left-eq0 t c = record {
+  answer = c.stopped.ensures.answer _ _ ∙ (let a = c.args in graph_deep _ _ a.s a.cells.now a.p a.f c.if-left-eq0.true);
+  grown = c.stopped.ensures.grown _;
+  counts = stopped_counts _ _ _ c.stopped.ensures.answer;
+  kept = keeps_all _ _;
+  memory = minded_none c.requires.minds.recalls c.requires.minds.fits;
+}
 
 pub graph-opening-opened-requires : goal.graph-opening-opened-requires
 graph-opening-opened-requires t c =
     let room = opening_countable _ _ _ _ _ c.if-left-eq0.false c.requires.countable in
-    record { model_len_bound = c.requires.enters.short; walked = c.requires.enters.walked; countable = room; recalling = c.requires.minds.recalls; top_bound = c.requires.minds.fits }
+    record {
+      model_len_bound = c.requires.enters.short;
+      walked = c.requires.enters.walked;
+      countable = room;
+      recalling = c.requires.minds.recalls;
+      top_bound = c.requires.minds.fits;
+    }
 
 pub graph-returns-in_default : goal.graph-returns-in_default
 graph-returns-in_default t c =
-    let rest = promised_and (graph_unopened _ _ _ _ _ _ c.if-left-eq0.false _ _ c.opening-opened.ensures.answer c.opening-opened.ensures.kept c.in_default.is)
+    let rest = promised_and (graph_unopened _ _ _ _ _ _ c.if-left-eq0.false _ _ c.opening-opened.ensures.answer
+    c.opening-opened.ensures.kept c.in_default.is)
     c.opening-opened.ensures.memory in
     record { answer = rest.0; grown = rest.1.0; counts = rest.1.1.0; kept = rest.1.1.1.0; memory = rest.1.1.1.1 }
 
@@ -129,7 +152,10 @@ graph-loop-n-init t c =
     )
 
 pub graph-graph_outputs-requires : goal.graph-graph_outputs-requires
-graph-graph_outputs-requires t c = record { recalling = c.loop-n.invariant.1.minded.recalls; graph_len_bound = outputs_room _ _ _ _ _ c.if-left-eq0.false c.requires.countable }
+graph-graph_outputs-requires t c = record {
+  recalling = c.loop-n.invariant.1.minded.recalls;
+  graph_len_bound = outputs_room _ _ _ _ _ c.if-left-eq0.false c.requires.countable;
+}
 
 pub graph-counting-requires : goal.graph-counting-requires
 graph-counting-requires t c =
@@ -144,7 +170,8 @@ graph-shape_of-extra-in_default-sought t c = c.loop-n.invariant.1.minded.size �
 
 pub graph-returns-in_default-sought : goal.graph-returns-in_default-sought
 graph-returns-in_default-sought t c =
-    let rest = promised_and (nodes_done _ _ _ _ _ _ c.if-left-eq0.false _ _ c.opening-opened.ensures.answer c.opening-opened.ensures.kept c.in-Went.is
+    let rest = promised_and (nodes_done _ _ _ _ _ _ c.if-left-eq0.false _ _ c.opening-opened.ensures.answer
+    c.opening-opened.ensures.kept c.in-Went.is
     c.opening-opened.ensures.grown c.loop-n.invariant.0 c.next_of-sought.ensures c.requires.enters c.in_default-sought.is _
     c.graph_outputs.ensures c.counting.ensures)
     (minded_then c.opening-opened.ensures.memory c.loop-n.invariant.1.minded) in
@@ -160,7 +187,8 @@ graph-node-step-requires t c =
       going_shorter c.loop-n.invariant.0 c.next_of-sought.ensures c.in-Found.is c.decreases,
       (
         going_enters c.loop-n.invariant.0 c.next_of-sought.ensures c.in-Found.is c.requires.enters.short c.requires.enters.walked
-            (own_contents _) graph_node (first_low _ _ _ _ _ _ c.if-left-eq0.false _ _ c.opening-opened.ensures.answer c.opening-opened.ensures.kept
+            (own_contents _) graph_node (first_low _ _ _ _ _ _ c.if-left-eq0.false _ _ c.opening-opened.ensures.answer
+            c.opening-opened.ensures.kept
             c.in-Went.is c.requires.enters),
         (
           minds_higher c.loop-n.invariant.2 c.loop-n.invariant.1.above (lists_fits c.loop-n.invariant.1),
@@ -173,14 +201,17 @@ graph-node-step-requires t c =
     )
 
 pub graph-shape_of-cells-in_default-step : goal.graph-shape_of-cells-in_default-step
-graph-shape_of-cells-in_default-step t c = c.node-step.ensures.kept.size ∙ c.loop-n.invariant.0.adding.kept.size ∙ c.opening-opened.ensures.kept.size
+graph-shape_of-cells-in_default-step t c =
+    c.node-step.ensures.kept.size ∙ c.loop-n.invariant.0.adding.kept.size ∙ c.opening-opened.ensures.kept.size
 
 pub graph-shape_of-extra-in_default-step : goal.graph-shape_of-extra-in_default-step
-graph-shape_of-extra-in_default-step t c = c.node-step.ensures.memory.size ∙ c.loop-n.invariant.1.minded.size ∙ c.opening-opened.ensures.memory.size
+graph-shape_of-extra-in_default-step t c =
+    c.node-step.ensures.memory.size ∙ c.loop-n.invariant.1.minded.size ∙ c.opening-opened.ensures.memory.size
 
 pub graph-returns-in_default-step : goal.graph-returns-in_default-step
 graph-returns-in_default-step t c =
-    let rest = promised_and (nodes_stop _ _ _ _ _ _ c.if-left-eq0.false _ _ c.opening-opened.ensures.answer c.opening-opened.ensures.kept c.in-Went.is
+    let rest = promised_and (nodes_stop _ _ _ _ _ _ c.if-left-eq0.false _ _ c.opening-opened.ensures.answer
+    c.opening-opened.ensures.kept c.in-Went.is
     c.opening-opened.ensures.grown c.loop-n.invariant.0 c.next_of-sought.ensures c.in-Found.is _ c.node-step.ensures.answer
     c.node-step.ensures.grown c.node-step.ensures.kept c.in_default-step.is)
     (minded_then c.opening-opened.ensures.memory
@@ -188,7 +219,11 @@ graph-returns-in_default-step t c =
     record { answer = rest.0; grown = rest.1.0; counts = rest.1.1.0; kept = rest.1.1.1.0; memory = rest.1.1.1.1 }
 
 pub graph-list-l-requires : goal.graph-list-l-requires
-graph-list-l-requires t c = record { remembering = c.node-step.ensures.memory.recalls.both; top_bound = c.node-step.ensures.memory.held.fits; model_len_bound = c.requires.enters.short }
+graph-list-l-requires t c = record {
+  remembering = c.node-step.ensures.memory.recalls.both;
+  top_bound = c.node-step.ensures.memory.held.fits;
+  model_len_bound = c.requires.enters.short;
+}
 
 pub graph-loop-n-smaller : goal.graph-loop-n-smaller
 graph-loop-n-smaller t c = going_falls c.loop-n.invariant.0 c.next_of-sought.ensures c.in-Found.is
@@ -203,7 +238,12 @@ graph-loop-n-preserved t c = (
 )
 
 pub node-node_rules-requires : goal.node-node_rules-requires
-node-node_rules-requires t c = record { recalling = c.requires.minds.recalls; imported = c.requires.minds.imported; listed = c.requires.listed; f_bound = node_inputs_room _ _ _ _ c.requires.countable }
+node-node_rules-requires t c = record {
+  recalling = c.requires.minds.recalls;
+  imported = c.requires.minds.imported;
+  listed = c.requires.listed;
+  f_bound = node_inputs_room _ _ _ _ c.requires.countable;
+}
 
 pub node-counting-headed-requires : goal.node-counting-headed-requires
 node-counting-headed-requires t c = node_fits _ _ _ _ c.requires.countable _ _ _ _ c.node_rules.ensures
@@ -229,7 +269,13 @@ node-closing-requires t c =
     let room = closing_countable _ _ _ _ _ _ _ _ c.node_rules.ensures c.counting-headed.ensures c.in-Went.is
     c.loop-a.invariant.0 c.requires.countable in
     let low = node_low c.loop-a.invariant.0 (enters_first {first = c.in-Went.first} first.0 first.1 c.requires.enters) in
-    record { model_len_bound = c.requires.enters.short; walked = c.requires.enters.walked; nodes_bound = low; countable = room; recalling = c.loop-a.invariant.1.minded.recalls }
+    record {
+      model_len_bound = c.requires.enters.short;
+      walked = c.requires.enters.walked;
+      nodes_bound = low;
+      countable = room;
+      recalling = c.loop-a.invariant.1.minded.recalls;
+    }
 
 pub node-shape_of-cells-in_default-sought : goal.node-shape_of-cells-in_default-sought
 node-shape_of-cells-in_default-sought t c = c.closing.ensures.kept.size ∙ c.loop-a.invariant.0.adding.kept.size
@@ -248,11 +294,13 @@ node-returns-in_default-sought t c =
 pub node-attribute-step-requires : goal.node-attribute-step-requires
 node-attribute-step-requires t c =
     let first = node_first _ _ _ _ _ _ _ c.node_rules.ensures c.counting-headed.ensures c.in-Went.is in
-    let room = attributes_countable _ _ c.args.s _ _ _ _ _ c.node_rules.ensures c.counting-headed.ensures c.in-Went.is c.requires.countable in (
+    let room = attributes_countable _ _ c.args.s _ _ _ _ _ c.node_rules.ensures c.counting-headed.ensures c.in-Went.is
+    c.requires.countable in (
       going_shorter c.loop-a.invariant.0 c.next_of-sought.ensures c.in-Found.is c.decreases,
       (
         going_enters c.loop-a.invariant.0 c.next_of-sought.ensures c.in-Found.is c.requires.enters.short c.requires.enters.walked
-            (own_contents _) node_attribute (enters_low (enters_first {first = c.in-Went.first} first.0 first.1 c.requires.enters)),
+            (own_contents _) node_attribute (enters_low
+            (enters_first {first = c.in-Went.first} first.0 first.1 c.requires.enters)),
         (
           minds_higher c.loop-a.invariant.2 c.loop-a.invariant.1.above (lists_fits c.loop-a.invariant.1),
           (
@@ -278,14 +326,19 @@ node-returns-in_default-step t c =
     record { answer = rest.0; grown = rest.1.0; counts = rest.1.1.0; kept = rest.1.1.1.0; memory = rest.1.1.1.1 }
 
 pub node-list-own-requires : goal.node-list-own-requires
-node-list-own-requires t c = record { remembering = c.attribute-step.ensures.memory.recalls.both; top_bound = c.attribute-step.ensures.memory.held.fits; model_len_bound = c.requires.enters.short }
+node-list-own-requires t c = record {
+  remembering = c.attribute-step.ensures.memory.recalls.both;
+  top_bound = c.attribute-step.ensures.memory.held.fits;
+  model_len_bound = c.requires.enters.short;
+}
 
 pub node-loop-a-smaller : goal.node-loop-a-smaller
 node-loop-a-smaller t c = going_falls c.loop-a.invariant.0 c.next_of-sought.ensures c.in-Found.is
 
 pub node-loop-a-preserved : goal.node-loop-a-preserved
 node-loop-a-preserved t c = (
-  going_goes c.loop-a.invariant.0 c.next_of-sought.ensures c.in-Found.is _ c.attribute-step.ensures.answer c.attribute-step.ensures.grown
+  going_goes c.loop-a.invariant.0 c.next_of-sought.ensures c.in-Found.is _ c.attribute-step.ensures.answer
+      c.attribute-step.ensures.grown
       c.attribute-step.ensures.kept (attributes_count _ _ _ _) c.attribute-step.ensures.counts c.in-Went-step.is,
   lists_next c.loop-a.invariant.1 c.next_of-sought.ensures c.in-Found.is c.attribute-step.ensures.memory c.list-own.ensures,
   lists_minds c.loop-a.invariant.1 c.next_of-sought.ensures c.in-Found.is c.loop-a.invariant.2 c.attribute-step.ensures.memory

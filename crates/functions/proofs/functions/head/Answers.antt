@@ -11,4 +11,8 @@ read_signature-requires c =
     }
 
 pub returns : goal.returns
-returns c = record { answer = c.read_signature.ensures.answer; declared = declares_on _ c.args.ix _ c.requires.remembering.fits _ _ _ c.read_signature.ensures.declared; held = held_on c.args.ix c.requires.remembering.fits c.read_signature.ensures.held }
+returns c = record {
+  answer = c.read_signature.ensures.answer;
+  declared = declares_on _ c.args.ix _ c.requires.remembering.fits _ _ _ c.read_signature.ensures.declared;
+  held = held_on c.args.ix c.requires.remembering.fits c.read_signature.ensures.held;
+}

@@ -18,11 +18,27 @@ with_odd-requires c =
     omega arith
 
 pub define-requires : goal.define-requires
-define-requires c = record { direct = c.requires.direct; name_value = field_some _ _ _ _ c.test_name.ensures c.in-Counted.is; model_len_bound = c.requires.model_len_bound; recalling = c.requires.recalling }
+define-requires c = record {
+  direct = c.requires.direct;
+  name_value = field_some _ _ _ _ c.test_name.ensures c.in-Counted.is;
+  model_len_bound = c.requires.model_len_bound;
+  recalling = c.requires.recalling;
+}
 
 pub returns-in-Refused : goal.returns-in-Refused
 unfolding step_says grows
-returns-in-Refused c = record { answer = input_bad _ _ _ c.test_name.ensures _ _ c.in-Refused.is; grown = tt; kept = keeps_all _ _; memory = recalled_none c.requires.recalling }
+returns-in-Refused c = record {
+  answer = input_bad _ _ _ c.test_name.ensures _ _ c.in-Refused.is;
+  grown = tt;
+  kept = keeps_all _ _;
+  memory = recalled_none c.requires.recalling;
+}
 
 pub returns-in-Counted : goal.returns-in-Counted
-returns-in-Counted c = record { answer = odd_says _ _ c.with_odd.ensures _ _ _ _ _ _ c.define.ensures.answer ∙ input_new _ _ _ c.test_name.ensures _ _ c.in-Counted.is; grown = odd_grows _ _ c.with_odd.ensures _ c.define.ensures.grown; kept = odd_keeps _ _ c.with_odd.ensures c.define.ensures.kept; memory = c.define.ensures.memory }
+returns-in-Counted c = record {
+  answer = odd_says _ _ c.with_odd.ensures _ _ _ _ _ _ c.define.ensures.answer
+      ∙ input_new _ _ _ c.test_name.ensures _ _ c.in-Counted.is;
+  grown = odd_grows _ _ c.with_odd.ensures _ c.define.ensures.grown;
+  kept = odd_keeps _ _ c.with_odd.ensures c.define.ensures.kept;
+  memory = c.define.ensures.memory;
+}

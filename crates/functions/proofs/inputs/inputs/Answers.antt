@@ -15,12 +15,18 @@ shape_of-extra-in_default c = c.loop-name.invariant.1.size
 pub returns-in_default : goal.returns-in_default
 returns-in_default c =
     let d = adding_done c.loop-name.invariant.0 c.next_of-sought.ensures c.in_default.is in
-    record { answer = d.0 ∙ along_contents _ _ _ _ _ c.contents-c.ensures; grown = d.1.0; kept = d.1.1; memory = c.loop-name.invariant.1 }
+    record {
+      answer = d.0 ∙ along_contents _ _ _ _ _ c.contents-c.ensures;
+      grown = d.1.0;
+      kept = d.1.1;
+      memory = c.loop-name.invariant.1;
+    }
 
 pub input-step-requires : goal.input-step-requires
 input-step-requires c =
     record {
-      direct = adding_direct c.loop-name.invariant.0 c.next_of-sought.ensures c.in-Found.is c.requires.walked c.contents-c.ensures function_input_lem;
+      direct = adding_direct c.loop-name.invariant.0 c.next_of-sought.ensures c.in-Found.is c.requires.walked c.contents-c.ensures
+          function_input_lem;
       countable = adding_countable c.loop-name.invariant.0 c.next_of-sought.ensures c.in-Found.is
           (from_contents _ _ _ _ _ c.contents-c.ensures c.requires.countable);
       model_len_bound = c.requires.model_len_bound;
@@ -30,7 +36,13 @@ input-step-requires c =
 pub returns-in_default-step : goal.returns-in_default-step
 returns-in_default-step c =
     let d = adding_stops c.loop-name.invariant.0 c.next_of-sought.ensures c.in-Found.is _ c.input-step.ensures.answer
-    c.input-step.ensures.grown c.input-step.ensures.kept c.in_default-step.is in record { answer = d.0 ∙ along_contents _ _ _ _ _ c.contents-c.ensures; grown = d.1.0; kept = d.1.1; memory = recalled_then c.loop-name.invariant.1 c.input-step.ensures.memory }
+    c.input-step.ensures.grown c.input-step.ensures.kept c.in_default-step.is in
+    record {
+      answer = d.0 ∙ along_contents _ _ _ _ _ c.contents-c.ensures;
+      grown = d.1.0;
+      kept = d.1.1;
+      memory = recalled_then c.loop-name.invariant.1 c.input-step.ensures.memory;
+    }
 
 pub loop-name-smaller : goal.loop-name-smaller
 loop-name-smaller c = adding_falls c.loop-name.invariant.0 c.next_of-sought.ensures c.in-Found.is

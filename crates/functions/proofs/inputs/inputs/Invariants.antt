@@ -12,8 +12,10 @@ use Rattle.messages.specs.Again.{field_names}
 use Rattle.functions.proofs.inputs.inputs.Given as goal
 
 abbrev pub invariant-loop-name : goal.invariant-loop-name
-invariant-loop-name l = Adding l.model Function-input l.initial.c.end l.initial.c.at (field_names l.model) (λ n. function_input l.model (fills n))
-    (each (function_input l.model (fills (length l.initial.cells))) (walk_in l.model l.initial.cells l.initial.q) (all_from l.model Function-input l.initial.c.end l.initial.c.at)) l.initial.cells l.initial.q l.cells l.q l.c
+invariant-loop-name l =
+    Adding l.model Function-input l.initial.c.end l.initial.c.at (field_names l.model) (λ n. function_input l.model (fills n))
+    (each (function_input l.model (fills (length l.initial.cells))) (walk_in l.model l.initial.cells l.initial.q)
+    (all_from l.model Function-input l.initial.c.end l.initial.c.at)) l.initial.cells l.initial.q l.cells l.q l.c
     × Recalled l.model l.ix l.cells l.initial.extra l.extra
 
 abbrev pub decreases-loop-name : goal.decreases-loop-name

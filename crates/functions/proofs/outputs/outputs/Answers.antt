@@ -15,7 +15,9 @@ loop-name-init c = tallying_start _ _ _ _ _ _
 
 pub returns-in_default : goal.returns-in_default
 unfolding tally_says
-returns-in_default c = λ w s. tallying_done c.loop-name.invariant c.next_of-sought.ensures c.in_default.is w s ∙ along_contents _ _ _ _ _ c.contents-c.ensures
+returns-in_default c =
+    λ w s. tallying_done c.loop-name.invariant c.next_of-sought.ensures c.in_default.is w s
+    ∙ along_contents _ _ _ _ _ c.contents-c.ensures
 
 pub returns-in_default-tally : goal.returns-in_default-tally
 unfolding more

@@ -28,7 +28,9 @@ returns-then-not-has_from c =
 pub returns-then-not-has_from-2 : goal.returns-then-not-has_from-2
 returns-then-not-has_from-2 c =
     record {
-      answer = c.unheaded-then-not-has_from-2.ensures.answer ∙ header_import _ _ c.whole-m.ensures c.number_from.ensures c.is_ir_version.ensures c.if-not-is_ir_version.false c.has_from.ensures c.if-not-has_from.false c.has_from-2.ensures c.if-not-has_from-2.true;
+      answer = c.unheaded-then-not-has_from-2.ensures.answer
+          ∙ header_import _ _ c.whole-m.ensures c.number_from.ensures c.is_ir_version.ensures c.if-not-is_ir_version.false
+          c.has_from.ensures c.if-not-has_from.false c.has_from-2.ensures c.if-not-has_from-2.true;
       imported = c.unheaded-then-not-has_from-2.ensures.imported _ _ _ _ _ _;
       held = held_all c.requires.indexed (omega arith);
     }
@@ -37,7 +39,8 @@ pub returns : goal.returns
 returns c =
     record {
       answer = header_imported _ _ c.whole-m.ensures c.number_from.ensures c.is_ir_version.ensures c.if-not-is_ir_version.false
-          c.has_from.ensures c.if-not-has_from.false c.has_from-2.ensures c.if-not-has_from-2.false _ c.opset_imports.ensures.answer;
+          c.has_from.ensures c.if-not-has_from.false c.has_from-2.ensures c.if-not-has_from-2.false _
+          c.opset_imports.ensures.answer;
       imported = rw c.whole-m.ensures at c.opset_imports.ensures.imported;
       held = c.opset_imports.ensures.held;
     }
@@ -52,4 +55,9 @@ pub has_from-requires-2 : goal.has_from-requires-2
 has_from-requires-2 c = rw c.whole-m.ensures c.requires.outlined.imports
 
 pub opset_imports-requires : goal.opset_imports-requires
-opset_imports-requires c = record { imports_from = rw c.whole-m.ensures c.requires.outlined.imports.same; indexed = c.requires.indexed; top_bound = omega arith; model_len_bound = c.requires.model_len_bound }
+opset_imports-requires c = record {
+  imports_from = rw c.whole-m.ensures c.requires.outlined.imports.same;
+  indexed = c.requires.indexed;
+  top_bound = omega arith;
+  model_len_bound = c.requires.model_len_bound;
+}

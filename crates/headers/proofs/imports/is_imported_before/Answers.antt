@@ -7,10 +7,13 @@ pub loop-f-init : goal.loop-f-init
 loop-f-init c = record { ends = refl; rest = refl }
 
 pub returns-in_default : goal.returns-in_default
-returns-in_default c = reread_done c.loop-f.invariant c.next_of-sought.ensures c.in_default.is ∙ imports_again _ _ _ _ _ c.contents-c.ensures
+returns-in_default c =
+    reread_done c.loop-f.invariant c.next_of-sought.ensures c.in_default.is ∙ imports_again _ _ _ _ _ c.contents-c.ensures
 
 pub returns-then-place-f : goal.returns-then-place-f
-returns-then-place-f c = reread_past c.loop-f.invariant c.next_of-sought.ensures c.in-Found.is c.if-place-f.true ∙ imports_again _ _ _ _ _ c.contents-c.ensures
+returns-then-place-f c =
+    reread_past c.loop-f.invariant c.next_of-sought.ensures c.in-Found.is c.if-place-f.true
+    ∙ imports_again _ _ _ _ _ c.contents-c.ensures
 
 pub returns-then-same_domain : goal.returns-then-same_domain
 returns-then-same_domain c =

@@ -10,7 +10,8 @@ use Rattle.headers.proofs.imports.is_imported_before.Given as goal
 
 abbrev pub invariant-loop-f : goal.invariant-loop-f
 invariant-loop-f l = Rereading l.model l.number l.initial.c.end (import_of l.model) l.place (domain l.d)
-    (member (domain l.d) (map (import_of l.model) (before l.place (all_from l.model l.number l.initial.c.end l.initial.c.at)))) l.c
+    (member (domain l.d) (map (import_of l.model) (before l.place (all_from l.model l.number l.initial.c.end l.initial.c.at))))
+    l.c
 
 abbrev pub decreases-loop-f : goal.decreases-loop-f
 decreases-loop-f l = l.initial.c.end - l.c.at

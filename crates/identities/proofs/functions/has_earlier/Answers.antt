@@ -11,10 +11,14 @@ pub returns-then-place-f : goal.returns-then-place-f
 returns-then-place-f c = reread_past c.loop-f.invariant c.next_of-sought.ensures c.in-Found.is c.if-place-f.true
 
 pub returns-then-has_identity : goal.returns-then-has_identity
-returns-then-has_identity c = reread_here c.loop-f.invariant c.next_of-sought.ensures c.in-Found.is c.if-place-f.false c.has_identity.ensures c.if-has_identity.true
+returns-then-has_identity c =
+    reread_here c.loop-f.invariant c.next_of-sought.ensures c.in-Found.is c.if-place-f.false c.has_identity.ensures
+    c.if-has_identity.true
 
 pub loop-f-smaller : goal.loop-f-smaller
 loop-f-smaller c = reread_falls c.loop-f.invariant c.next_of-sought.ensures c.in-Found.is
 
 pub loop-f-preserved : goal.loop-f-preserved
-loop-f-preserved c = reread_next c.loop-f.invariant c.next_of-sought.ensures c.in-Found.is c.if-place-f.false c.has_identity.ensures c.if-has_identity.false
+loop-f-preserved c =
+    reread_next c.loop-f.invariant c.next_of-sought.ensures c.in-Found.is c.if-place-f.false c.has_identity.ensures
+    c.if-has_identity.false

@@ -8,4 +8,6 @@ returns-then-known c =
     (identity_parts _ _ _ c.bytes_of-name.ensures c.domain_of-domain.ensures c.overload_of-overload.ensures) c.has_record.ensures
 
 pub returns : goal.returns
-returns c = identified_by (identity_parts _ _ _ c.bytes_of-name.ensures c.domain_of-domain.ensures c.overload_of-overload.ensures) _ c.has_earlier.ensures
+returns c =
+    identified_by (identity_parts _ _ _ c.bytes_of-name.ensures c.domain_of-domain.ensures c.overload_of-overload.ensures) _
+    c.has_earlier.ensures

@@ -29,7 +29,13 @@ pub loop-k-smaller : goal.loop-k-smaller
 loop-k-smaller c = omega arith
 
 pub loop-k-preserved : goal.loop-k-preserved
-loop-k-preserved c = (c.loop-k.invariant.0, omega arith, number_next _ _ _ c.loop-k.invariant.2 c.digit_at.ensures.0 c.fold-h.ensures.0, c.fold-h.ensures.1)
+loop-k-preserved c = (
+  c.loop-k.invariant.0,
+  omega arith,
+  number_next _ _ _ c.loop-k.invariant.2 c.digit_at.ensures.0 c.fold-h.ensures.0,
+  c.fold-h.ensures.1,
+)
 
 pub returns : goal.returns
-returns c = (number_end _ _ _ c.loop-k.invariant.0 c.loop-k.invariant.2 c.loop-k.invariant.1 c.loop-k-test.false, mod-lt _ (lit< tt))
+returns c =
+    (number_end _ _ _ c.loop-k.invariant.0 c.loop-k.invariant.2 c.loop-k.invariant.1 c.loop-k-test.false, mod-lt _ (lit< tt))

@@ -11,7 +11,8 @@ pub overflow_mul-result : goal.overflow_mul-result
 overflow_mul-result c =
     omega (
       arith,
-      scale_fits c.args.x c.hash_of-h.result (c.args.seed / 4294967296 % 2147483646 + 1) c.requires c.hash_of-h.ensures.1 (scale_lt _),
+      scale_fits c.args.x c.hash_of-h.result (c.args.seed / 4294967296 % 2147483646 + 1) c.requires c.hash_of-h.ensures.1
+          (scale_lt _),
     )
 
 pub returns : goal.returns

@@ -12,4 +12,6 @@ pub replace-left-requires : goal.replace-left-requires
 replace-left-requires c = (lent_index _ _ _ c.requires c.known-used.ensures.0, omega (arith, c.if-used-place.false))
 
 pub returns : goal.returns
-returns c = remember_here _ _ (omega (arith, c.if-cells-eq0.false)) (omega (arith, c.if-used-place.false, c.known-used.ensures.0)) (lent_replaced _ c.replace-left.ensures)
+returns c =
+    remember_here _ _ (omega (arith, c.if-cells-eq0.false)) (omega (arith, c.if-used-place.false, c.known-used.ensures.0))
+    (lent_replaced _ c.replace-left.ensures)

@@ -8,7 +8,11 @@ pub overflow_add-result : goal.overflow_add-result
 overflow_add-result c = omega (arith, c.requires.0.fits, capacity_lt (length c.args.table.now))
 
 pub returns-in-Added : goal.returns-in-Added
-returns-in-Added c = replaced_added c.requires.1 (c.pop_to.ensures.indexed, c.pop_to.ensures.stays) _ _ _ (c.push.ensures.answer, c.push.ensures.stays) c.in-Added.is
+returns-in-Added c =
+    replaced_added c.requires.1 (c.pop_to.ensures.indexed, c.pop_to.ensures.stays) _ _ _
+    (c.push.ensures.answer, c.push.ensures.stays) c.in-Added.is
 
 pub returns-in-Full : goal.returns-in-Full
-returns-in-Full c = replaced_full c.requires.1 (c.pop_to.ensures.indexed, c.pop_to.ensures.stays) _ _ _ (c.push.ensures.answer, c.push.ensures.stays) c.in-Full.is
+returns-in-Full c =
+    replaced_full c.requires.1 (c.pop_to.ensures.indexed, c.pop_to.ensures.stays) _ _ _
+    (c.push.ensures.answer, c.push.ensures.stays) c.in-Full.is

@@ -5,7 +5,8 @@ pub loop-i-init : goal.loop-i-init
 loop-i-init c = popping_start c.requires.0 c.requires.1
 
 pub loop-i-preserved : goal.loop-i-preserved
-loop-i-preserved c = popping_next c.loop-i.invariant c.capacity-size.ensures.0 c.loop-i-test.true c.name_of.ensures c.bucket_of-head.ensures.0
+loop-i-preserved c =
+    popping_next c.loop-i.invariant c.capacity-size.ensures.0 c.loop-i-test.true c.name_of.ensures c.bucket_of-head.ensures.0
 
 pub shape_of-table : goal.shape_of-table
 shape_of-table c = c.loop-i.invariant.stays.size

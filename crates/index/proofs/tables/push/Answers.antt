@@ -8,5 +8,6 @@ returns-then-size-used c =
 
 pub returns : goal.returns
 returns c =
-    let rest = push_added _ _ c.requires c.capacity-size.ensures.0 _ _ c.between.ensures c.bucket_of-head.ensures.0 c.put.ensures in
+    let rest = push_added _ _ c.requires c.capacity-size.ensures.0 _ _ c.between.ensures c.bucket_of-head.ensures.0 c.put.ensures
+    in
     record { answer = rest.0; stays = rest.1 }

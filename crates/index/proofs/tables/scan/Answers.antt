@@ -9,7 +9,8 @@ pub name_of-requires : goal.name_of-requires
 name_of-requires c = omega (arith, c.loop-i.invariant.inside, c.loop-i-test.true, c.requires)
 
 pub returns-then-same_bytes : goal.returns-then-same_bytes
-returns-then-same_bytes c = scan_here c.loop-i.invariant c.loop-i-test.true c.name_of.ensures c.same_bytes.ensures c.if-same_bytes.true
+returns-then-same_bytes c =
+    scan_here c.loop-i.invariant c.loop-i-test.true c.name_of.ensures c.same_bytes.ensures c.if-same_bytes.true
 
 pub loop-i-preserved : goal.loop-i-preserved
 loop-i-preserved c = scan_next c.loop-i.invariant c.loop-i-test.true c.name_of.ensures c.same_bytes.ensures c.if-same_bytes.false

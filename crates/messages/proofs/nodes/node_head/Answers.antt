@@ -9,7 +9,8 @@ use Rattle.messages.proofs.NodeLaws.{node_name_few, imported_by, head_untyped, h
 use Rattle.messages.proofs.nodes.node_head.Goals as goal
 
 pub returns-in_default : goal.returns-in_default
-returns-in_default c = λ w. ap (tally_says w) c.tally_of.ensures ∙ head_untyped _ _ _ _ _ c.read_name-naming.ensures w c.in_default.is
+returns-in_default c =
+    λ w. ap (tally_says w) c.tally_of.ensures ∙ head_untyped _ _ _ _ _ c.read_name-naming.ensures w c.in_default.is
 
 pub returns-then-not-is_imported : goal.returns-then-not-is_imported
 returns-then-not-is_imported c =
@@ -21,7 +22,8 @@ pub returns : goal.returns
 returns c =
     λ w. ap (tally_says w) c.adding.ensures
     ∙ head_named _ _ _ _ _ c.read_name-naming.ensures w c.in-Named.is c.bytes_of.ensures
-    (c.is_imported.ensures ∙ ap (member _) (imported_by _ _ c.import_number.ensures)) c.if-not-is_imported.false _ (c.node_name.ensures (more w _))
+    (c.is_imported.ensures ∙ ap (member _) (imported_by _ _ c.import_number.ensures)) c.if-not-is_imported.false _
+    (c.node_name.ensures (more w _))
 
 pub is_imported-requires : goal.is_imported-requires
 is_imported-requires c = rw (imported_by _ c.args.s c.import_number.ensures) c.requires.imported

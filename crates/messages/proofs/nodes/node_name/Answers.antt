@@ -12,7 +12,8 @@ returns-in_default c = λ w. node_nameless _ _ _ w (missing _ _ _ _ c.first_of.e
 
 pub returns-then-text-eq0 : goal.returns-then-text-eq0
 unfolding tally_says
-returns-then-text-eq0 c = λ w. node_unnamed _ _ _ w (found _ _ _ _ c.first_of.ensures c.in-Found.is) c.text-text.ensures c.if-text-eq0.true
+returns-then-text-eq0 c =
+    λ w. node_unnamed _ _ _ w (found _ _ _ _ c.first_of.ensures c.in-Found.is) c.text-text.ensures c.if-text-eq0.true
 
 pub returns-in_default-tally : goal.returns-in_default-tally
 returns-in_default-tally c =

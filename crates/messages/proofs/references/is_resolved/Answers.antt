@@ -8,7 +8,10 @@ pub returns-then-not-s : goal.returns-then-not-s
 returns-then-not-s c = resolved_none _ _ _ (not-true _ c.if-not-s.true)
 
 pub is_attribute-requires : goal.is_attribute-requires
-is_attribute-requires c = record { listed = rw (← (attributes_all _ c.args.s (not-false _ c.if-not-s.false))) c.requires.listed; name_value = c.requires.name_value }
+is_attribute-requires c = record {
+  listed = rw (← (attributes_all _ c.args.s (not-false _ c.if-not-s.false))) c.requires.listed;
+  name_value = c.requires.name_value;
+}
 
 pub returns : goal.returns
 returns c = c.is_attribute.ensures ∙ ap (member _) (sym (attributes_all _ c.args.s (not-false _ c.if-not-s.false)))

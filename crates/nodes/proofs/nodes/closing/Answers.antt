@@ -7,13 +7,28 @@ use Rattle.nodes.proofs.ClosingLaws.{closing_none, closing_stops, closing_went, 
 use Rattle.nodes.proofs.nodes.closing.Goals as goal
 
 pub returns-then-not-has : goal.returns-then-not-has
-returns-then-not-has c = record { answer = c.stopped.ensures.answer _ _ ∙ closing_none _ _ _ _ c.has.ensures c.if-not-has.true; grown = c.stopped.ensures.grown _; kept = keeps_all _ _; memory = recalled_none c.requires.recalling }
+returns-then-not-has c = record {
+  answer = c.stopped.ensures.answer _ _ ∙ closing_none _ _ _ _ c.has.ensures c.if-not-has.true;
+  grown = c.stopped.ensures.grown _;
+  kept = keeps_all _ _;
+  memory = recalled_none c.requires.recalling;
+}
 
 pub node_outputs-step-requires : goal.node_outputs-step-requires
-node_outputs-step-requires c = record { model_len_bound = c.requires.model_len_bound; walked = c.requires.walked; countable = c.requires.countable; recalling = c.requires.recalling }
+node_outputs-step-requires c = record {
+  model_len_bound = c.requires.model_len_bound;
+  walked = c.requires.walked;
+  countable = c.requires.countable;
+  recalling = c.requires.recalling;
+}
 
 pub returns-in_default : goal.returns-in_default
-returns-in_default c = record { answer = closing_stops _ _ _ _ c.has.ensures c.if-not-has.false _ _ c.node_outputs-step.ensures.answer c.in_default.is; grown = c.node_outputs-step.ensures.grown; kept = c.node_outputs-step.ensures.kept; memory = c.node_outputs-step.ensures.memory }
+returns-in_default c = record {
+  answer = closing_stops _ _ _ _ c.has.ensures c.if-not-has.false _ _ c.node_outputs-step.ensures.answer c.in_default.is;
+  grown = c.node_outputs-step.ensures.grown;
+  kept = c.node_outputs-step.ensures.kept;
+  memory = c.node_outputs-step.ensures.memory;
+}
 
 pub overflow_add-result : goal.overflow_add-result
 unfolding walk_in
@@ -24,4 +39,9 @@ overflow_add-result c =
 
 pub returns : goal.returns
 unfolding grows
-returns c = record { answer = closing_went _ _ _ _ c.has.ensures c.if-not-has.false _ _ c.node_outputs-step.ensures.answer c.in-Went.is; grown = subst (grows c.args.p) c.in-Went.is c.node_outputs-step.ensures.grown; kept = c.node_outputs-step.ensures.kept; memory = c.node_outputs-step.ensures.memory }
+returns c = record {
+  answer = closing_went _ _ _ _ c.has.ensures c.if-not-has.false _ _ c.node_outputs-step.ensures.answer c.in-Went.is;
+  grown = subst (grows c.args.p) c.in-Went.is c.node_outputs-step.ensures.grown;
+  kept = c.node_outputs-step.ensures.kept;
+  memory = c.node_outputs-step.ensures.memory;
+}

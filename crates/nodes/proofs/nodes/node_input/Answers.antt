@@ -16,9 +16,12 @@ sees-requires c = record { recalling = c.requires; name_value = empty_some _ c.i
 
 pub returns-then-sees : goal.returns-then-sees
 unfolding tally_says
-returns-then-sees c = λ w s. input_visible _ w _ c.text-text.ensures c.if-text-eq0.false (c.tested-tally.ensures w) c.in-Counted.is s c.sees.ensures c.if-sees.true
+returns-then-sees c =
+    λ w s. input_visible _ w _ c.text-text.ensures c.if-text-eq0.false (c.tested-tally.ensures w) c.in-Counted.is s c.sees.ensures
+    c.if-sees.true
 
 pub returns : goal.returns
 returns c =
     λ w s. c.uncounted.ensures w
-    ∙ input_hidden _ w _ c.text-text.ensures c.if-text-eq0.false (c.tested-tally.ensures w) c.in-Counted.is s c.sees.ensures c.if-sees.false
+    ∙ input_hidden _ w _ c.text-text.ensures c.if-text-eq0.false (c.tested-tally.ensures w) c.in-Counted.is s c.sees.ensures
+    c.if-sees.false

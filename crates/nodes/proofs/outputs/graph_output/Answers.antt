@@ -6,7 +6,10 @@ use Rattle.nodes.proofs.OutputLaws.{listed_unnamed, listed_hidden, listed_visibl
 use Rattle.nodes.proofs.outputs.graph_output.Goals as goal
 
 pub sees-requires : goal.sees-requires
-sees-requires c = record { recalling = c.requires.recalling; name_value = ap is_empty c.text.ensures ∙ named_some _ _ _ _ _ c.read_name.ensures c.in-Named.is }
+sees-requires c = record {
+  recalling = c.requires.recalling;
+  name_value = ap is_empty c.text.ensures ∙ named_some _ _ _ _ _ c.read_name.ensures c.in-Named.is;
+}
 
 pub returns-then-not-sees : goal.returns-then-not-sees
 returns-then-not-sees c =
@@ -14,7 +17,8 @@ returns-then-not-sees c =
     ∙ listed_hidden _ k w _ _ c.read_name.ensures c.in-Named.is c.text.ensures s c.sees.ensures c.if-not-sees.true
 
 pub adding-requires : goal.adding-requires
-adding-requires c = listed_fits _ _ _ _ c.main_type.ensures (named_few _ _ _ _ _ c.read_name.ensures c.in-Named.is) c.requires.f_len_bound
+adding-requires c =
+    listed_fits _ _ _ _ c.main_type.ensures (named_few _ _ _ _ _ c.read_name.ensures c.in-Named.is) c.requires.f_len_bound
 
 pub returns-in-Refused : goal.returns-in-Refused
 unfolding tally_says

@@ -18,19 +18,25 @@ returns-in_default c =
     ∙ outputs_any _ _ _ k e _
 
 pub graph_output-tally-requires : goal.graph_output-tally-requires
-graph_output-tally-requires c = record { recalling = c.requires.recalling; f_len_bound = tallying_room c.loop-f.invariant c.next_of-sought.ensures c.in-Found.is _ c.contents-c.ensures c.requires.graph_len_bound }
+graph_output-tally-requires c = record {
+  recalling = c.requires.recalling;
+  f_len_bound = tallying_room c.loop-f.invariant c.next_of-sought.ensures c.in-Found.is _ c.contents-c.ensures
+      c.requires.graph_len_bound;
+}
 
 pub returns-in_default-tally : goal.returns-in_default-tally
 unfolding more
 returns-in_default-tally c =
-    λ k w e s. tallying_stops c.loop-f.invariant c.next_of-sought.ensures c.in-Found.is (λ v h. h) (λ v h. c.graph_output-tally.ensures _ v refl h)
+    λ k w e s. tallying_stops c.loop-f.invariant c.next_of-sought.ensures c.in-Found.is (λ v h. h)
+    (λ v h. c.graph_output-tally.ensures _ v refl h)
     c.in_default-tally.is w s
     ∙ along_contents _ _ _ _ _ c.contents-c.ensures
     ∙ outputs_any _ _ _ k e _
 
 pub overflow_add-odd : goal.overflow_add-odd
 overflow_add-odd c =
-    let sum = tallying_sum c.loop-f.invariant c.next_of-sought.ensures c.in-Found.is _ c.contents-c.ensures c.requires.graph_len_bound
+    let sum = tallying_sum c.loop-f.invariant c.next_of-sought.ensures c.in-Found.is _ c.contents-c.ensures
+    c.requires.graph_len_bound
     (listed_few _ _ _ _ _ c.graph_output-tally.ensures c.in-Counted.is) in
     omega arith
 
@@ -40,5 +46,6 @@ loop-f-smaller c = tallying_falls c.loop-f.invariant c.next_of-sought.ensures c.
 pub loop-f-preserved : goal.loop-f-preserved
 unfolding more
 loop-f-preserved c =
-    tallying_goes c.loop-f.invariant c.next_of-sought.ensures c.in-Found.is (λ v h. h) (λ v h. c.graph_output-tally.ensures _ v refl h)
+    tallying_goes c.loop-f.invariant c.next_of-sought.ensures c.in-Found.is (λ v h. h)
+    (λ v h. c.graph_output-tally.ensures _ v refl h)
     c.in-Counted.is (listed_few _ _ _ _ _ c.graph_output-tally.ensures c.in-Counted.is)

@@ -10,7 +10,9 @@ use Rattle.scope.proofs.StepLaws.{plain}
 use Rattle.nodes.proofs.outputs.graph_outputs.Given as goal
 
 abbrev pub invariant-loop-f : goal.invariant-loop-f
-invariant-loop-f l = Tallying l.model Graph-output l.initial.c.end l.initial.c.at (λ (w : Walk). w.scope ≡ scope_in l.model l.cells l.used) (value_names l.model l.main) (output l.model (plain l.main)) l.odd l.c
+invariant-loop-f l =
+    Tallying l.model Graph-output l.initial.c.end l.initial.c.at (λ (w : Walk). w.scope ≡ scope_in l.model l.cells l.used)
+    (value_names l.model l.main) (output l.model (plain l.main)) l.odd l.c
 
 abbrev pub decreases-loop-f : goal.decreases-loop-f
 decreases-loop-f l = l.initial.c.end - l.c.at

@@ -12,7 +12,12 @@ use Rattle.nodes.proofs.outputs.node_output.Goals as goal
 
 pub returns-then-text-eq0 : goal.returns-then-text-eq0
 unfolding step_says grows
-returns-then-text-eq0 c = record { answer = output_out _ _ _ _ c.text-text.ensures c.if-text-eq0.true; grown = omega arith; kept = keeps_all _ _; memory = recalled_none c.requires.recalling }
+returns-then-text-eq0 c = record {
+  answer = output_out _ _ _ _ c.text-text.ensures c.if-text-eq0.true;
+  grown = omega arith;
+  kept = keeps_all _ _;
+  memory = recalled_none c.requires.recalling;
+}
 
 pub with_odd-requires : goal.with_odd-requires
 unfolding Countable field_names
@@ -22,11 +27,21 @@ with_odd-requires c =
     omega arith
 
 pub define-requires : goal.define-requires
-define-requires c = record { direct = c.requires.direct; name_value = ap is_empty (sym c.text-text.ensures) ∙ empty_some _ c.if-text-eq0.false; model_len_bound = c.requires.model_len_bound; recalling = c.requires.recalling }
+define-requires c = record {
+  direct = c.requires.direct;
+  name_value = ap is_empty (sym c.text-text.ensures) ∙ empty_some _ c.if-text-eq0.false;
+  model_len_bound = c.requires.model_len_bound;
+  recalling = c.requires.recalling;
+}
 
 pub returns-in-Refused : goal.returns-in-Refused
 unfolding step_says grows
-returns-in-Refused c = record { answer = output_bad _ _ _ _ c.text-text.ensures c.if-text-eq0.false (c.tested.ensures _) c.in-Refused.is; grown = tt; kept = keeps_all _ _; memory = recalled_none c.requires.recalling }
+returns-in-Refused c = record {
+  answer = output_bad _ _ _ _ c.text-text.ensures c.if-text-eq0.false (c.tested.ensures _) c.in-Refused.is;
+  grown = tt;
+  kept = keeps_all _ _;
+  memory = recalled_none c.requires.recalling;
+}
 
 pub returns-in-Counted : goal.returns-in-Counted
 returns-in-Counted c =

@@ -12,8 +12,10 @@ use Rattle.messages.specs.Again.{field_names}
 use Rattle.nodes.proofs.outputs.node_outputs.Given as goal
 
 abbrev pub invariant-loop-f : goal.invariant-loop-f
-invariant-loop-f l = Adding l.model Node-output l.initial.c.end l.initial.c.at (field_names l.model) (λ n. node_output l.model (fills n))
-    (each (node_output l.model (fills (length l.initial.cells))) (walk_in l.model l.initial.cells l.initial.q) (all_from l.model Node-output l.initial.c.end l.initial.c.at)) l.initial.cells l.initial.q l.cells l.q l.c
+invariant-loop-f l =
+    Adding l.model Node-output l.initial.c.end l.initial.c.at (field_names l.model) (λ n. node_output l.model (fills n))
+    (each (node_output l.model (fills (length l.initial.cells))) (walk_in l.model l.initial.cells l.initial.q)
+    (all_from l.model Node-output l.initial.c.end l.initial.c.at)) l.initial.cells l.initial.q l.cells l.q l.c
     × Recalled l.model l.ix l.cells l.initial.extra l.extra
 
 abbrev pub decreases-loop-f : goal.decreases-loop-f

@@ -7,4 +7,7 @@ use Rattle.onnx_gate.proofs.decisions.reply.Goals as goal
 pub returns : goal.returns
 returns c =
     let text = line_of (meaning c.decide.result) in
-    record { counts = c.line.ensures.counts; text = printed text c.args.out.now c.line.ensures.size c.line.ensures.text ∙ ap line_of c.decide.ensures }
+    record {
+      counts = c.line.ensures.counts;
+      text = printed text c.args.out.now c.line.ensures.size c.line.ensures.text ∙ ap line_of c.decide.ensures;
+    }

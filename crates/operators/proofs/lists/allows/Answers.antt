@@ -9,10 +9,13 @@ pub lowest-requires : goal.lowest-requires
 lowest-requires c = omega (arith, entry_inside _ _ _ c.entry_of.ensures c.in-At.is)
 
 pub returns-then-version-lowest : goal.returns-then-version-lowest
-returns-then-version-lowest c = allows_below _ _ _ c.canonical.ensures _ c.entry_of.ensures c.in-At.is _ c.lowest.ensures c.if-version-lowest.true
+returns-then-version-lowest c =
+    allows_below _ _ _ c.canonical.ensures _ c.entry_of.ensures c.in-At.is _ c.lowest.ensures c.if-version-lowest.true
 
 pub highest-requires : goal.highest-requires
 highest-requires c = omega (arith, entry_inside _ _ _ c.entry_of.ensures c.in-At.is)
 
 pub returns : goal.returns
-returns c = allows_to _ _ _ c.canonical.ensures _ c.entry_of.ensures c.in-At.is _ c.lowest.ensures c.if-version-lowest.false _ c.highest.ensures
+returns c =
+    allows_to _ _ _ c.canonical.ensures _ c.entry_of.ensures c.in-At.is _ c.lowest.ensures c.if-version-lowest.false _
+    c.highest.ensures

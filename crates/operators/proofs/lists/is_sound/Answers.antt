@@ -8,16 +8,19 @@ pub loop-at-init : goal.loop-at-init
 loop-at-init c = judge_start _ _ c.is_headed.ensures c.if-not-is_headed.false
 
 pub returns-then-not-is_well_formed : goal.returns-then-not-is_well_formed
-returns-then-not-is_well_formed c = judge_broken c.loop-at.invariant c.loop-at-test.true _ c.is_well_formed.ensures c.if-not-is_well_formed.true
+returns-then-not-is_well_formed c =
+    judge_broken c.loop-at.invariant c.loop-at-test.true _ c.is_well_formed.ensures c.if-not-is_well_formed.true
 
 pub returns-in_default : goal.returns-in_default
 returns-in_default c =
-    judge_twice c.loop-at.invariant c.loop-at-test.true _ c.is_well_formed.ensures c.if-not-is_well_formed.false _ c.after-next.ensures.0 _
+    judge_twice c.loop-at.invariant c.loop-at-test.true _ c.is_well_formed.ensures c.if-not-is_well_formed.false _
+    c.after-next.ensures.0 _
     c.domain_of.ensures c.entry_of.ensures c.in_default.is
 
 pub loop-at-preserved : goal.loop-at-preserved
 loop-at-preserved c =
-    judge_next c.loop-at.invariant c.loop-at-test.true _ c.is_well_formed.ensures c.if-not-is_well_formed.false _ c.after-next.ensures.0 _
+    judge_next c.loop-at.invariant c.loop-at-test.true _ c.is_well_formed.ensures c.if-not-is_well_formed.false _
+    c.after-next.ensures.0 _
     c.domain_of.ensures c.entry_of.ensures c.in-Nothing.is
 
 pub returns : goal.returns

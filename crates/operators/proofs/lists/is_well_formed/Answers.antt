@@ -8,7 +8,11 @@ pub returns-then-list-after : goal.returns-then-list-after
 returns-then-list-after c = past_end _ _ _ c.two.ensures.0 c.if-two-lt8.false _ c.after.ensures.0 c.if-list-after.true
 
 pub returns-then-low-lt1 : goal.returns-then-low-lt1
-returns-then-low-lt1 c = lowest_zero _ _ _ c.two.ensures.0 c.if-two-lt8.false _ c.after.ensures.0 c.if-list-after.false _ c.lowest-low.ensures c.if-low-lt1.true
+returns-then-low-lt1 c =
+    lowest_zero _ _ _ c.two.ensures.0 c.if-two-lt8.false _ c.after.ensures.0 c.if-list-after.false _ c.lowest-low.ensures
+    c.if-low-lt1.true
 
 pub returns : goal.returns
-returns c = versions_order _ _ _ c.two.ensures.0 c.if-two-lt8.false _ c.after.ensures.0 c.if-list-after.false _ c.lowest-low.ensures c.if-low-lt1.false _ c.highest.ensures
+returns c =
+    versions_order _ _ _ c.two.ensures.0 c.if-two-lt8.false _ c.after.ensures.0 c.if-list-after.false _ c.lowest-low.ensures
+    c.if-low-lt1.false _ c.highest.ensures

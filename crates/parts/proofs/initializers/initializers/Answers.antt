@@ -22,13 +22,19 @@ shape_of-extra-in_default c = c.loop-f.invariant.1.minded.size
 pub returns-in_default : goal.returns-in_default
 returns-in_default c =
     let d = adding_done c.loop-f.invariant.0 c.next_of-sought.ensures c.in_default.is in
-    record { answer = d.0 ∙ along_contents _ _ _ _ _ c.contents-c.ensures; grown = d.1.0; kept = d.1.1; memory = c.loop-f.invariant.1.minded }
+    record {
+      answer = d.0 ∙ along_contents _ _ _ _ _ c.contents-c.ensures;
+      grown = d.1.0;
+      kept = d.1.1;
+      memory = c.loop-f.invariant.1.minded;
+    }
 
 pub initializer-step-requires : goal.initializer-step-requires
 initializer-step-requires c =
     record {
       model_len_bound = c.requires.model_len_bound;
-      walked = adding_walked c.loop-f.invariant.0 c.next_of-sought.ensures c.in-Found.is c.requires.walked c.contents-c.ensures graph_initializer;
+      walked = adding_walked c.loop-f.invariant.0 c.next_of-sought.ensures c.in-Found.is c.requires.walked c.contents-c.ensures
+          graph_initializer;
       countable = adding_countable c.loop-f.invariant.0 c.next_of-sought.ensures c.in-Found.is
           (from_contents _ _ _ _ _ c.contents-c.ensures c.requires.countable);
       recalling = c.loop-f.invariant.1.minded.recalls;
@@ -39,14 +45,22 @@ initializer-step-requires c =
 pub returns-in_default-step : goal.returns-in_default-step
 returns-in_default-step c =
     let d = adding_stops c.loop-f.invariant.0 c.next_of-sought.ensures c.in-Found.is _ c.initializer-step.ensures.answer
-    c.initializer-step.ensures.grown c.initializer-step.ensures.kept c.in_default-step.is in record { answer = d.0 ∙ along_contents _ _ _ _ _ c.contents-c.ensures; grown = d.1.0; kept = d.1.1; memory = minded_then c.loop-f.invariant.1.minded (minded_recalled c.loop-f.invariant.1.minded.held.fits c.initializer-step.ensures.memory) }
+    c.initializer-step.ensures.grown c.initializer-step.ensures.kept c.in_default-step.is in
+    record {
+      answer = d.0 ∙ along_contents _ _ _ _ _ c.contents-c.ensures;
+      grown = d.1.0;
+      kept = d.1.1;
+      memory = minded_then c.loop-f.invariant.1.minded
+          (minded_recalled c.loop-f.invariant.1.minded.held.fits c.initializer-step.ensures.memory);
+    }
 
 pub loop-f-smaller : goal.loop-f-smaller
 loop-f-smaller c = adding_falls c.loop-f.invariant.0 c.next_of-sought.ensures c.in-Found.is
 
 pub loop-f-preserved : goal.loop-f-preserved
 loop-f-preserved c = (
-  adding_goes c.loop-f.invariant.0 c.next_of-sought.ensures c.in-Found.is _ c.initializer-step.ensures.answer c.initializer-step.ensures.grown
+  adding_goes c.loop-f.invariant.0 c.next_of-sought.ensures c.in-Found.is _ c.initializer-step.ensures.answer
+      c.initializer-step.ensures.grown
       c.initializer-step.ensures.kept (initializer_counts _ _ _) c.in-Went.is,
   lists_next c.loop-f.invariant.1 c.next_of-sought.ensures c.in-Found.is
       (minded_recalled (lists_fits c.loop-f.invariant.1) c.initializer-step.ensures.memory) c.list-l.ensures,
@@ -56,4 +70,8 @@ loop-f-preserved c = (
 )
 
 pub list-l-requires : goal.list-l-requires
-list-l-requires c = record { remembering = c.initializer-step.ensures.memory.recalls.both; top_bound = (minded_recalled (lists_fits c.loop-f.invariant.1) c.initializer-step.ensures.memory).held.fits; model_len_bound = c.requires.model_len_bound }
+list-l-requires c = record {
+  remembering = c.initializer-step.ensures.memory.recalls.both;
+  top_bound = (minded_recalled (lists_fits c.loop-f.invariant.1) c.initializer-step.ensures.memory).held.fits;
+  model_len_bound = c.requires.model_len_bound;
+}

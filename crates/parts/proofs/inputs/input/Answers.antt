@@ -12,12 +12,23 @@ pub with_odd-requires : goal.with_odd-requires
 with_odd-requires c = input_fits _ _ _ _ c.requires.countable (named_few _ _ _ _ _ c.read_name.ensures c.in-Named.is)
 
 pub define-step-requires : goal.define-step-requires
-define-step-requires c = record { direct = name_first c.requires.walked value_info_name (named_first _ _ _ _ _ c.read_name.ensures c.in-Named.is); name_value = named_some _ _ _ _ _ c.read_name.ensures c.in-Named.is; model_len_bound = c.requires.model_len_bound; recalling = c.requires.recalling }
+define-step-requires c = record {
+  direct = name_first c.requires.walked value_info_name (named_first _ _ _ _ _ c.read_name.ensures c.in-Named.is);
+  name_value = named_some _ _ _ _ _ c.read_name.ensures c.in-Named.is;
+  model_len_bound = c.requires.model_len_bound;
+  recalling = c.requires.recalling;
+}
 
 pub returns-in_default : goal.returns-in_default
 returns-in_default c =
     let e = c.with_odd.ensures in
-    record { answer = λ k i. input_stops _ _ k _ _ _ _ c.read_name.ensures c.in-Named.is e _ _ c.define-step.ensures.answer c.in_default.is; grown = odd_grows _ _ e _ c.define-step.ensures.grown; kept = odd_keeps _ _ e c.define-step.ensures.kept; memory = c.define-step.ensures.memory }
+    record {
+      answer = λ k i. input_stops _ _ k _ _ _ _ c.read_name.ensures c.in-Named.is e _ _ c.define-step.ensures.answer
+          c.in_default.is;
+      grown = odd_grows _ _ e _ c.define-step.ensures.grown;
+      kept = odd_keeps _ _ e c.define-step.ensures.kept;
+      memory = c.define-step.ensures.memory;
+    }
 
 pub counting-requires : goal.counting-requires
 counting-requires c =
@@ -26,7 +37,12 @@ counting-requires c =
 
 pub returns-in-Refused : goal.returns-in-Refused
 unfolding step_says grows
-returns-in-Refused c = record { answer = λ k e. input_unnamed _ _ k _ _ _ _ c.read_name.ensures c.in-Refused.is; grown = tt; kept = keeps_all _ _; memory = recalled_none c.requires.recalling }
+returns-in-Refused c = record {
+  answer = λ k e. input_unnamed _ _ k _ _ _ _ c.read_name.ensures c.in-Refused.is;
+  grown = tt;
+  kept = keeps_all _ _;
+  memory = recalled_none c.requires.recalling;
+}
 
 pub returns-in-Went : goal.returns-in-Went
 returns-in-Went c =

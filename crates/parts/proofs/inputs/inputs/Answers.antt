@@ -15,13 +15,19 @@ shape_of-extra-in_default c = c.loop-f.invariant.1.size
 pub returns-in_default : goal.returns-in_default
 returns-in_default c =
     let d = adding_done c.loop-f.invariant.0 c.next_of-sought.ensures c.in_default.is in
-    record { answer = λ k e. d.0 ∙ along_contents _ _ _ _ _ c.contents-c.ensures ∙ inputs_any _ _ _ k e _ _; grown = d.1.0; kept = d.1.1; memory = c.loop-f.invariant.1 }
+    record {
+      answer = λ k e. d.0 ∙ along_contents _ _ _ _ _ c.contents-c.ensures ∙ inputs_any _ _ _ k e _ _;
+      grown = d.1.0;
+      kept = d.1.1;
+      memory = c.loop-f.invariant.1;
+    }
 
 pub input-step-requires : goal.input-step-requires
 input-step-requires c =
     record {
       model_len_bound = c.requires.model_len_bound;
-      walked = adding_walked c.loop-f.invariant.0 c.next_of-sought.ensures c.in-Found.is c.requires.walked c.contents-c.ensures graph_input;
+      walked = adding_walked c.loop-f.invariant.0 c.next_of-sought.ensures c.in-Found.is c.requires.walked c.contents-c.ensures
+          graph_input;
       countable = adding_countable c.loop-f.invariant.0 c.next_of-sought.ensures c.in-Found.is
           (from_contents _ _ _ _ _ c.contents-c.ensures c.requires.countable);
       recalling = c.loop-f.invariant.1.recalls;
@@ -30,7 +36,8 @@ input-step-requires c =
 pub returns-in_default-step : goal.returns-in_default-step
 returns-in_default-step c =
     let d =
-    adding_stops c.loop-f.invariant.0 c.next_of-sought.ensures c.in-Found.is _ (c.input-step.ensures.answer _ refl) c.input-step.ensures.grown
+    adding_stops c.loop-f.invariant.0 c.next_of-sought.ensures c.in-Found.is _ (c.input-step.ensures.answer _ refl)
+    c.input-step.ensures.grown
     c.input-step.ensures.kept c.in_default-step.is in
     record {
       answer = λ k e. d.0 ∙ along_contents _ _ _ _ _ c.contents-c.ensures ∙ inputs_any _ _ _ k e _ _;
@@ -44,7 +51,8 @@ loop-f-smaller c = adding_falls c.loop-f.invariant.0 c.next_of-sought.ensures c.
 
 pub loop-f-preserved : goal.loop-f-preserved
 loop-f-preserved c = (
-  adding_goes c.loop-f.invariant.0 c.next_of-sought.ensures c.in-Found.is _ (c.input-step.ensures.answer _ refl) c.input-step.ensures.grown
+  adding_goes c.loop-f.invariant.0 c.next_of-sought.ensures c.in-Found.is _ (c.input-step.ensures.answer _ refl)
+      c.input-step.ensures.grown
       c.input-step.ensures.kept (input_counts _ _) c.in-Went.is,
   recalled_then c.loop-f.invariant.1 c.input-step.ensures.memory,
 )

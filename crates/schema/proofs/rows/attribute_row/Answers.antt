@@ -77,4 +77,6 @@ returns-in-23 c = row_at Attribute 23 c.in-23.is
 
 pub returns-in_default : goal.returns-in_default
 unfolding Rows-computes contains subset numbers
-returns-in_default c = row_unknown Attribute (23 ∷ 22 ∷ 21 ∷ 20 ∷ 15 ∷ 14 ∷ 11 ∷ 10 ∷ 9 ∷ 8 ∷ 7 ∷ 6 ∷ 5 ∷ 4 ∷ 3 ∷ 2 ∷ 1 ∷ []) c.args.number tt (search rules)
+returns-in_default c =
+    row_unknown Attribute (23 ∷ 22 ∷ 21 ∷ 20 ∷ 15 ∷ 14 ∷ 11 ∷ 10 ∷ 9 ∷ 8 ∷ 7 ∷ 6 ∷ 5 ∷ 4 ∷ 3 ∷ 2 ∷ 1 ∷ []) c.args.number tt
+    (search rules)

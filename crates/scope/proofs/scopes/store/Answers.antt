@@ -29,7 +29,8 @@ offset_bounds-cells-at-2 c = let l = room_fits _ _ c.requires.i_bound in let g =
 
 pub bounds-cells-at-2 : goal.bounds-cells-at-2
 unfolding WIDTH
-bounds-cells-at-2 c = let l = room_fits _ _ c.requires.i_bound in omega (arith, length-set c.args.cells.now (WIDTH * c.args.i) c.args.place)
+bounds-cells-at-2 c =
+    let l = room_fits _ _ c.requires.i_bound in omega (arith, length-set c.args.cells.now (WIDTH * c.args.i) c.args.place)
 
 pub returns : goal.returns
 unfolding stored WIDTH

@@ -11,4 +11,8 @@ header-requires c =
     }
 
 pub returns : goal.returns
-returns c = record { answer = c.header.ensures.answer; imported = holds_on _ _ _ c.args.ix _ _ c.requires.remembering.fits _ _ c.header.ensures.imported; held = held_on c.args.ix c.requires.remembering.fits c.header.ensures.held }
+returns c = record {
+  answer = c.header.ensures.answer;
+  imported = holds_on _ _ _ c.args.ix _ _ c.requires.remembering.fits _ _ c.header.ensures.imported;
+  held = held_on c.args.ix c.requires.remembering.fits c.header.ensures.held;
+}

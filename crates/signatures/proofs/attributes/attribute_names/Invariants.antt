@@ -11,7 +11,9 @@ use Rattle.signatures.specs.Signature.{attribute_again}
 use Rattle.signatures.proofs.attributes.attribute_names.Given as goal
 
 abbrev pub invariant-loop-a : goal.invariant-loop-a
-invariant-loop-a l = Tallying l.model Function-attribute l.initial.c.end l.initial.c.at Any (field_names l.model) (attribute_again l.model l.f) l.odd l.c
+invariant-loop-a l =
+    Tallying l.model Function-attribute l.initial.c.end l.initial.c.at Any (field_names l.model) (attribute_again l.model l.f)
+    l.odd l.c
     × Behind l.model l.seed Function-attribute [] (text l.model) l.f l.lists l.l l.c
     × Held l.model l.seed 0 l.initial.lists l.lists
 

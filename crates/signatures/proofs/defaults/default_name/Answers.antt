@@ -5,10 +5,14 @@ use Rattle.signatures.proofs.AttributeLaws.{default_nameless, default_twice, def
 use Rattle.signatures.proofs.defaults.default_name.Goals as goal
 
 pub returns-in_default : goal.returns-in_default
-returns-in_default c = λ w. ap (tally_says w) c.tally_of.ensures ∙ default_nameless _ _ _ c.read_name-naming.ensures w c.in_default.is
+returns-in_default c =
+    λ w. ap (tally_says w) c.tally_of.ensures ∙ default_nameless _ _ _ c.read_name-naming.ensures w c.in_default.is
 
 pub is_attribute-requires : goal.is_attribute-requires
-is_attribute-requires c = record { listed = c.requires; name_value = rw c.text.ensures (named_some _ _ _ _ _ c.read_name-naming.ensures c.in-Named.is) }
+is_attribute-requires c = record {
+  listed = c.requires;
+  name_value = rw c.text.ensures (named_some _ _ _ _ _ c.read_name-naming.ensures c.in-Named.is);
+}
 
 pub returns-then-is_attribute : goal.returns-then-is_attribute
 returns-then-is_attribute c =
@@ -18,11 +22,13 @@ returns-then-is_attribute c =
 pub returns-in-Refused : goal.returns-in-Refused
 unfolding tally_says
 returns-in-Refused c =
-    λ w. default_refused _ _ _ c.read_name-naming.ensures w c.in-Named.is c.text.ensures c.is_attribute.ensures c.if-is_attribute.false _
+    λ w. default_refused _ _ _ c.read_name-naming.ensures w c.in-Named.is c.text.ensures c.is_attribute.ensures
+    c.if-is_attribute.false _
     c.default_rules.ensures c.in-Refused.is
 
 pub returns-in-Kept : goal.returns-in-Kept
 unfolding tally_says
 returns-in-Kept c =
-    λ w. default_kept _ _ _ c.read_name-naming.ensures w c.in-Named.is c.text.ensures c.is_attribute.ensures c.if-is_attribute.false _
+    λ w. default_kept _ _ _ c.read_name-naming.ensures w c.in-Named.is c.text.ensures c.is_attribute.ensures
+    c.if-is_attribute.false _
     c.default_rules.ensures c.in-Kept.is

@@ -7,8 +7,10 @@ pub returns-then-reference-ne0 : goal.returns-then-reference-ne0
 returns-then-reference-ne0 c = c.refused.ensures ∙ default_refers _ _ c.bytes_of-reference.ensures c.if-reference-ne0.true
 
 pub returns-then-is_bad_default : goal.returns-then-is_bad_default
-returns-then-is_bad_default c = cc (default_bad _ _ c.bytes_of-reference.ensures c.if-reference-ne0.false c.is_bad_default.ensures c.if-is_bad_default.true)
+returns-then-is_bad_default c =
+    cc (default_bad _ _ c.bytes_of-reference.ensures c.if-reference-ne0.false c.is_bad_default.ensures c.if-is_bad_default.true)
 
 pub returns : goal.returns
 unfolding ruling_says
-returns c = default_good _ _ c.bytes_of-reference.ensures c.if-reference-ne0.false c.is_bad_default.ensures c.if-is_bad_default.false
+returns c =
+    default_good _ _ c.bytes_of-reference.ensures c.if-reference-ne0.false c.is_bad_default.ensures c.if-is_bad_default.false

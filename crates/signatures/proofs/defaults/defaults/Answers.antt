@@ -23,7 +23,8 @@ pub returns-in_default : goal.returns-in_default
 unfolding tally_says attributes_says lists_all
 returns-in_default c =
     record {
-      answer = λ w. tallying_done c.loop-a.invariant.0 c.next_of-sought.ensures c.in_default.is w tt ∙ along_contents _ _ _ _ _ c.contents-c.ensures;
+      answer = λ w. tallying_done c.loop-a.invariant.0 c.next_of-sought.ensures c.in_default.is w tt
+          ∙ along_contents _ _ _ _ _ c.contents-c.ensures;
       listed = (
         subst (Listed _ _ _ _) (sym (all_second _ _)) (behind_done c.loop-a.invariant.1 c.next_of-sought.ensures c.in_default.is),
         tallied_few c.loop-a.invariant.0 _ c.contents-c.ensures,
@@ -32,13 +33,15 @@ returns-in_default c =
     }
 
 pub default_name-tally-requires : goal.default_name-tally-requires
-default_name-tally-requires c = subst (Listed _ _ _ _) (sym (before_second _ _ _)) (behind_found c.loop-a.invariant.1 c.next_of-sought.ensures c.in-Found.is)
+default_name-tally-requires c =
+    subst (Listed _ _ _ _) (sym (before_second _ _ _)) (behind_found c.loop-a.invariant.1 c.next_of-sought.ensures c.in-Found.is)
 
 pub returns-in_default-tally : goal.returns-in_default-tally
 returns-in_default-tally c =
     record {
       answer = λ w. listing_as _ _ c.listing.ensures w
-          ∙ tallying_stops c.loop-a.invariant.0 c.next_of-sought.ensures c.in-Found.is (λ v _. tt) (λ v _. c.default_name-tally.ensures v)
+          ∙ tallying_stops c.loop-a.invariant.0 c.next_of-sought.ensures c.in-Found.is (λ v _. tt)
+          (λ v _. c.default_name-tally.ensures v)
           c.in_default-tally.is w tt
           ∙ along_contents _ _ _ _ _ c.contents-c.ensures;
       listed = listing_none _ _ c.listing.ensures c.in_default-tally.is _ _ _ _ _;
@@ -46,7 +49,11 @@ returns-in_default-tally c =
     }
 
 pub list_name-l-requires : goal.list_name-l-requires
-list_name-l-requires c = record { indexed = c.loop-a.invariant.1.listed.index; top_bound = c.loop-a.invariant.1.listed.fits; model_len_bound = c.requires.model_len_bound }
+list_name-l-requires c = record {
+  indexed = c.loop-a.invariant.1.listed.index;
+  top_bound = c.loop-a.invariant.1.listed.fits;
+  model_len_bound = c.requires.model_len_bound;
+}
 
 pub overflow_add-odd : goal.overflow_add-odd
 overflow_add-odd c =
@@ -60,7 +67,8 @@ loop-a-smaller c = tallying_falls c.loop-a.invariant.0 c.next_of-sought.ensures 
 
 pub loop-a-preserved : goal.loop-a-preserved
 loop-a-preserved c = (
-  tallying_goes c.loop-a.invariant.0 c.next_of-sought.ensures c.in-Found.is (λ v _. tt) (λ v _. c.default_name-tally.ensures v) c.in-Counted.is
+  tallying_goes c.loop-a.invariant.0 c.next_of-sought.ensures c.in-Found.is (λ v _. tt) (λ v _. c.default_name-tally.ensures v)
+      c.in-Counted.is
       (default_few _ _ _ c.default_name-tally.ensures c.in-Counted.is),
   behind_next c.loop-a.invariant.1 c.next_of-sought.ensures c.in-Found.is c.list_name-l.ensures,
   held_then c.loop-a.invariant.2 (held_fewer (omega arith) c.list_name-l.ensures.held),

@@ -7,16 +7,25 @@ use Rattle.signatures.proofs.SignatureLaws.{attributes_refused, attributes_liste
 use Rattle.signatures.proofs.signatures.all_attributes.Goals as goal
 
 pub returns-in_default : goal.returns-in_default
-returns-in_default c = record { answer = attributes_refused _ _ c.attribute_names-listed.ensures.answer c.in_default.is; listed = refused_none c.in_default.is _ _ _ _ _; held = c.attribute_names-listed.ensures.held }
+returns-in_default c = record {
+  answer = attributes_refused _ _ c.attribute_names-listed.ensures.answer c.in_default.is;
+  listed = refused_none c.in_default.is _ _ _ _ _;
+  held = c.attribute_names-listed.ensures.held;
+}
 
 pub defaults-requires : goal.defaults-requires
-defaults-requires c = record { listed_2 = told_listed _ _ _ _ _ c.attribute_names-listed.ensures.listed c.in-Listed.is; model_len_bound = c.requires.model_len_bound; next_in_bounds = c.requires.next_in_bounds }
+defaults-requires c = record {
+  listed_2 = told_listed _ _ _ _ _ c.attribute_names-listed.ensures.listed c.in-Listed.is;
+  model_len_bound = c.requires.model_len_bound;
+  next_in_bounds = c.requires.next_in_bounds;
+}
 
 pub counting-requires : goal.counting-requires
 counting-requires c =
     let first = attributes_few c.args.model.now c.args.f in
     let second = defaults_few c.args.model.now c.args.f in
-    room _ _ (told_few _ _ _ _ _ c.attribute_names-listed.ensures.listed c.in-Listed.is) _ _ _ _ _ c.defaults.ensures.listed (omega arith)
+    room _ _ (told_few _ _ _ _ _ c.attribute_names-listed.ensures.listed c.in-Listed.is) _ _ _ _ _ c.defaults.ensures.listed
+    (omega arith)
 
 pub returns : goal.returns
 returns c =

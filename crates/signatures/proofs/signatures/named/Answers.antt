@@ -21,7 +21,8 @@ returns-then-twice c =
     record {
       answer = λ w. listing_as _ _ c.listing-then-twice.ensures w
           ∙ c.uncounted.ensures w
-          ∙ function_twice _ _ _ (read_tally _ _ _ _ _ c.read_name.ensures c.tally_of-tally.ensures) c.in-Counted.is w c.if-twice.true;
+          ∙ function_twice _ _ _ (read_tally _ _ _ _ _ c.read_name.ensures c.tally_of-tally.ensures) c.in-Counted.is w
+          c.if-twice.true;
       listed = listing_none _ _ c.listing-then-twice.ensures (tally_fails _ start (c.uncounted.ensures start)) _ _ _ _ _;
       held = held_all c.requires.indexed (omega arith);
     }
@@ -38,9 +39,11 @@ pub returns : goal.returns
 returns c =
     record {
       answer = λ w. counting_as _ _ c.counting.ensures w
-          ∙ function_once _ _ _ (read_tally _ _ _ _ _ c.read_name.ensures c.tally_of-tally.ensures) c.in-Counted.is w c.if-twice.false
+          ∙ function_once _ _ _ (read_tally _ _ _ _ _ c.read_name.ensures c.tally_of-tally.ensures) c.in-Counted.is w
+          c.if-twice.false
           (c.all_attributes.ensures.answer _);
-      listed = counting_lists _ _ c.counting.ensures (name_few _ _ _ _ (read_tally _ _ _ _ _ c.read_name.ensures c.tally_of-tally.ensures) c.in-Counted.is)
+      listed = counting_lists _ _ c.counting.ensures
+          (name_few _ _ _ _ (read_tally _ _ _ _ _ c.read_name.ensures c.tally_of-tally.ensures) c.in-Counted.is)
           _ _ _ _ _ c.all_attributes.ensures.listed;
       held = c.all_attributes.ensures.held;
     }

@@ -12,11 +12,19 @@ imports-requires c =
 
 pub returns-in-Refused : goal.returns-in-Refused
 unfolding signature_says declares
-returns-in-Refused c = record { answer = signature_refused _ _ _ _ c.named.ensures.answer c.in-Refused.is; declared = tt; held = c.named.ensures.held }
+returns-in-Refused c = record {
+  answer = signature_refused _ _ _ _ c.named.ensures.answer c.in-Refused.is;
+  declared = tt;
+  held = c.named.ensures.held;
+}
 
 pub returns-in-Refused-imports : goal.returns-in-Refused-imports
 unfolding signature_says declares
-returns-in-Refused-imports c = record { answer = signature_unimported _ _ _ _ c.named.ensures.answer c.in-Listed.is c.imports.ensures.answer c.in-Refused-imports.is; declared = tt; held = held_then c.named.ensures.held (held_fewer (omega arith) c.imports.ensures.held) }
+returns-in-Refused-imports c = record {
+  answer = signature_unimported _ _ _ _ c.named.ensures.answer c.in-Listed.is c.imports.ensures.answer c.in-Refused-imports.is;
+  declared = tt;
+  held = held_then c.named.ensures.held (held_fewer (omega arith) c.imports.ensures.held);
+}
 
 pub returns-in-Imported : goal.returns-in-Imported
 unfolding signature_says declares

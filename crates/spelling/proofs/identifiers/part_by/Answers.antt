@@ -24,7 +24,8 @@ returns-then-not-is_identifier_byte c =
     record { upper_bound = rest.0; name_value = rest.1.0; name_value_2 = rest.1.1 }
 
 pub loop-i-preserved : goal.loop-i-preserved
-loop-i-preserved c = part_next c.loop-i.invariant c.loop-i-test.true _ c.is_identifier_byte.ensures c.if-not-is_identifier_byte.false
+loop-i-preserved c =
+    part_next c.loop-i.invariant c.loop-i-test.true _ c.is_identifier_byte.ensures c.if-not-is_identifier_byte.false
 
 pub returns : goal.returns
 returns c =

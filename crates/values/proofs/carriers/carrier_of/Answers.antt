@@ -64,4 +64,5 @@ returns-in-14 c = carrier_at 14 c.in-14.is
 
 pub returns-in_default : goal.returns-in_default
 unfolding contains lookup subset carriers
-returns-in_default c = carrier_none c.args.code (14 ∷ 13 ∷ 12 ∷ 11 ∷ 10 ∷ 9 ∷ 8 ∷ 7 ∷ 6 ∷ 5 ∷ 4 ∷ 3 ∷ 2 ∷ 1 ∷ []) tt (search rules)
+returns-in_default c =
+    carrier_none c.args.code (14 ∷ 13 ∷ 12 ∷ 11 ∷ 10 ∷ 9 ∷ 8 ∷ 7 ∷ 6 ∷ 5 ∷ 4 ∷ 3 ∷ 2 ∷ 1 ∷ []) tt (search rules)

@@ -9,13 +9,17 @@ pub returns-then-c : goal.returns-then-c
 returns-then-c c = look_done c.loop-c.invariant c.if-c.true ∙ look_all _ _ _ c.contents-c.ensures
 
 pub returns-in_default : goal.returns-in_default
-returns-in_default c = look_stop c.loop-c.invariant c.if-c.false c.field-read.ensures c.in_default.is ∙ look_all _ _ _ c.contents-c.ensures
+returns-in_default c =
+    look_stop c.loop-c.invariant c.if-c.false c.field-read.ensures c.in_default.is ∙ look_all _ _ _ c.contents-c.ensures
 
 pub returns-then-is_foreign : goal.returns-then-is_foreign
-returns-then-is_foreign c = look_here c.loop-c.invariant c.if-c.false c.field-read.ensures c.in-Read.is c.is_foreign.ensures c.if-is_foreign.true ∙ look_all _ _ _ c.contents-c.ensures
+returns-then-is_foreign c =
+    look_here c.loop-c.invariant c.if-c.false c.field-read.ensures c.in-Read.is c.is_foreign.ensures c.if-is_foreign.true
+    ∙ look_all _ _ _ c.contents-c.ensures
 
 pub loop-c-smaller : goal.loop-c-smaller
 loop-c-smaller c = look_falls c.loop-c.invariant c.if-c.false c.field-read.ensures c.in-Read.is
 
 pub loop-c-preserved : goal.loop-c-preserved
-loop-c-preserved c = look_next c.loop-c.invariant c.if-c.false c.field-read.ensures c.in-Read.is c.is_foreign.ensures c.if-is_foreign.false
+loop-c-preserved c =
+    look_next c.loop-c.invariant c.if-c.false c.field-read.ensures c.in-Read.is c.is_foreign.ensures c.if-is_foreign.false

@@ -64,4 +64,6 @@ returns-in-15 c = contains_at carrier_numbers 15 c.in-15.is
 
 pub returns-in_default : goal.returns-in_default
 unfolding contains subset carriers carrier_numbers
-returns-in_default c = contained_none c.args.number carrier_numbers (15 ∷ 14 ∷ 23 ∷ 22 ∷ 11 ∷ 10 ∷ 9 ∷ 8 ∷ 7 ∷ 6 ∷ 5 ∷ 4 ∷ 3 ∷ 2 ∷ []) tt (search rules)
+returns-in_default c =
+    contained_none c.args.number carrier_numbers (15 ∷ 14 ∷ 23 ∷ 22 ∷ 11 ∷ 10 ∷ 9 ∷ 8 ∷ 7 ∷ 6 ∷ 5 ∷ 4 ∷ 3 ∷ 2 ∷ []) tt
+    (search rules)

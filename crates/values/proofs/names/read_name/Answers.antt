@@ -8,7 +8,9 @@ pub returns-in_default : goal.returns-in_default
 returns-in_default c = λ w. c.misnamed.ensures w ∙ name_absent _ _ _ _ w (missing _ _ _ _ c.first_of.ensures c.in_default.is)
 
 pub returns-then-text-eq0 : goal.returns-then-text-eq0
-returns-then-text-eq0 c = λ w. c.misnamed-then-text-eq0.ensures w ∙ name_empty _ _ _ _ w (found _ _ _ _ c.first_of.ensures c.in-Found.is) c.text-text.ensures c.if-text-eq0.true
+returns-then-text-eq0 c =
+    λ w. c.misnamed-then-text-eq0.ensures w
+    ∙ name_empty _ _ _ _ w (found _ _ _ _ c.first_of.ensures c.in-Found.is) c.text-text.ensures c.if-text-eq0.true
 
 pub returns-in-Refused : goal.returns-in-Refused
 unfolding naming_says

@@ -5,18 +5,23 @@ use Rattle.values.proofs.TypeLaws.{dim_negative, dim_nameless, dim_empty, dim_te
 use Rattle.values.proofs.types.dim.Goals as goal
 
 pub returns-then-number_of-ge-SIGN_BIT : goal.returns-then-number_of-ge-SIGN_BIT
-returns-then-number_of-ge-SIGN_BIT c = λ w. c.uncounted.ensures w ∙ dim_negative _ _ w c.number_of.ensures c.place_of.ensures c.if-number_of-ge-SIGN_BIT.true
+returns-then-number_of-ge-SIGN_BIT c =
+    λ w. c.uncounted.ensures w ∙ dim_negative _ _ w c.number_of.ensures c.place_of.ensures c.if-number_of-ge-SIGN_BIT.true
 
 pub returns-in_default : goal.returns-in_default
 unfolding tally_says
-returns-in_default c = λ w. dim_nameless _ _ w c.number_of.ensures c.if-number_of-ge-SIGN_BIT.false (missing _ _ _ _ c.first_of.ensures c.in_default.is)
+returns-in_default c =
+    λ w. dim_nameless _ _ w c.number_of.ensures c.if-number_of-ge-SIGN_BIT.false
+    (missing _ _ _ _ c.first_of.ensures c.in_default.is)
 
 pub returns-then-text-eq0 : goal.returns-then-text-eq0
 returns-then-text-eq0 c =
-    λ w. c.uncounted-then-text-eq0.ensures w ∙ dim_empty _ _ w c.number_of.ensures c.if-number_of-ge-SIGN_BIT.false (found _ _ _ _ c.first_of.ensures c.in-Found.is)
+    λ w. c.uncounted-then-text-eq0.ensures w
+    ∙ dim_empty _ _ w c.number_of.ensures c.if-number_of-ge-SIGN_BIT.false (found _ _ _ _ c.first_of.ensures c.in-Found.is)
     c.text-text.ensures c.if-text-eq0.true
 
 pub returns : goal.returns
 returns c =
-    λ w. c.tested.ensures w ∙ dim_tested _ _ w c.number_of.ensures c.if-number_of-ge-SIGN_BIT.false (found _ _ _ _ c.first_of.ensures c.in-Found.is)
+    λ w. c.tested.ensures w ∙ dim_tested _ _ w c.number_of.ensures c.if-number_of-ge-SIGN_BIT.false
+    (found _ _ _ _ c.first_of.ensures c.in-Found.is)
     c.text-text.ensures c.if-text-eq0.false

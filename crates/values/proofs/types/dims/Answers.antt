@@ -14,7 +14,9 @@ loop-d-init c = tallying_start _ _ _ _ _ _
 
 pub returns-in_default : goal.returns-in_default
 unfolding tally_says
-returns-in_default c = λ w. tallying_done c.loop-d.invariant c.next_of-sought.ensures c.in_default.is w tt ∙ along_contents _ _ _ _ _ c.contents-c.ensures
+returns-in_default c =
+    λ w. tallying_done c.loop-d.invariant c.next_of-sought.ensures c.in_default.is w tt
+    ∙ along_contents _ _ _ _ _ c.contents-c.ensures
 
 pub returns-in_default-tally : goal.returns-in_default-tally
 returns-in_default-tally c =
@@ -24,7 +26,8 @@ returns-in_default-tally c =
 pub overflow_add-odd : goal.overflow_add-odd
 unfolding contents_of
 overflow_add-odd c =
-    let few = tallying_fits c.loop-d.invariant c.next_of-sought.ensures c.in-Found.is (dim_few _ _ c.dim-tally.ensures c.in-Counted.is) in
+    let few = tallying_fits c.loop-d.invariant c.next_of-sought.ensures c.in-Found.is
+    (dim_few _ _ c.dim-tally.ensures c.in-Counted.is) in
     let all = dims_few c.args.model.now Shape-dim c.contents-c.result.end c.contents-c.result.at in
     let ends = ap (λ (x : Cursor). x.end) c.contents-c.ensures in
     let good = c.well_formed.1.0.1.1.1.1.1.1.1.0.1 in
@@ -35,5 +38,6 @@ loop-d-smaller c = tallying_falls c.loop-d.invariant c.next_of-sought.ensures c.
 
 pub loop-d-preserved : goal.loop-d-preserved
 loop-d-preserved c =
-    tallying_goes c.loop-d.invariant c.next_of-sought.ensures c.in-Found.is (λ v h. tt) (λ v h. c.dim-tally.ensures v) c.in-Counted.is
+    tallying_goes c.loop-d.invariant c.next_of-sought.ensures c.in-Found.is (λ v h. tt) (λ v h. c.dim-tally.ensures v)
+    c.in-Counted.is
     (dim_few _ _ c.dim-tally.ensures c.in-Counted.is)

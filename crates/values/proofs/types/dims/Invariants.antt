@@ -8,7 +8,8 @@ use Rattle.varint.proofs.Tells.{Any}
 use Rattle.values.proofs.types.dims.Given as goal
 
 abbrev pub invariant-loop-d : goal.invariant-loop-d
-invariant-loop-d l = Tallying l.model Shape-dim l.initial.c.end l.initial.c.at (Any {A = Walk}) (dim_names l.model) (dim l.model) l.odd l.c
+invariant-loop-d l =
+    Tallying l.model Shape-dim l.initial.c.end l.initial.c.at (Any {A = Walk}) (dim_names l.model) (dim l.model) l.odd l.c
 
 abbrev pub decreases-loop-d : goal.decreases-loop-d
 decreases-loop-d l = l.initial.c.end - l.c.at

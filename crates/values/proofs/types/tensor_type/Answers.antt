@@ -4,7 +4,9 @@ use Rattle.values.proofs.TypeLaws.{elem_bad, shape_none, shape_some}
 use Rattle.values.proofs.types.tensor_type.Goals as goal
 
 pub returns-then-not-is_element : goal.returns-then-not-is_element
-returns-then-not-is_element c = λ w. c.uncounted.ensures w ∙ elem_bad _ _ w c.number_of.ensures c.is_element.ensures c.place_of.ensures c.if-not-is_element.true
+returns-then-not-is_element c =
+    λ w. c.uncounted.ensures w ∙ elem_bad _ _ w c.number_of.ensures c.is_element.ensures c.place_of.ensures
+    c.if-not-is_element.true
 
 pub returns-in-Missing : goal.returns-in-Missing
 returns-in-Missing c =

@@ -16,38 +16,59 @@ pub loop-pos-init : goal.loop-pos-init
 loop-pos-init c = go_start _ _ _ _ _ c.if-end-from.false c.tenth_or_end-stop.ensures
 
 pub overflow_mul-result : goal.overflow_mul-result
-overflow_mul-result c = record { fits = omega (arith, go_small c.loop-pos.invariant c.loop-pos-test.true c.byte_at-b.result (omega arith)) }
+overflow_mul-result c = record {
+  fits = omega (arith, go_small c.loop-pos.invariant c.loop-pos-test.true c.byte_at-b.result (omega arith));
+}
 
 pub overflow_add-result-then-b-lt128 : goal.overflow_add-result-then-b-lt128
-overflow_add-result-then-b-lt128 c = record { fits = go_small c.loop-pos.invariant c.loop-pos-test.true c.byte_at-b.result (omega arith) }
+overflow_add-result-then-b-lt128 c = record {
+  fits = go_small c.loop-pos.invariant c.loop-pos-test.true c.byte_at-b.result (omega arith);
+}
 
 pub returns-then-b-lt128 : goal.returns-then-b-lt128
 unfolding varint_says
-returns-then-b-lt128 c = go_last c.loop-pos.invariant c.loop-pos-test.true _ (omega (arith, c.byte_at-first.ensures.0, c.if-first-lt128.false)) c.byte_at-b.ensures.0 c.if-b-lt128.true
+returns-then-b-lt128 c =
+    go_last c.loop-pos.invariant c.loop-pos-test.true _ (omega (arith, c.byte_at-first.ensures.0, c.if-first-lt128.false))
+    c.byte_at-b.ensures.0 c.if-b-lt128.true
 
 pub overflow_mul-value : goal.overflow_mul-value
-overflow_mul-value c = record { fits = omega (arith, go_small c.loop-pos.invariant c.loop-pos-test.true (c.byte_at-b.result - 128) (omega arith)) }
+overflow_mul-value c = record {
+  fits = omega (arith, go_small c.loop-pos.invariant c.loop-pos-test.true (c.byte_at-b.result - 128) (omega arith));
+}
 
 pub overflow_add-value : goal.overflow_add-value
-overflow_add-value c = record { fits = go_small c.loop-pos.invariant c.loop-pos-test.true (c.byte_at-b.result - 128) (omega arith) }
+overflow_add-value c = record {
+  fits = go_small c.loop-pos.invariant c.loop-pos-test.true (c.byte_at-b.result - 128) (omega arith);
+}
 
 pub overflow_mul-scale : goal.overflow_mul-scale
 overflow_mul-scale c = record { fits = go_scale c.loop-pos.invariant c.loop-pos-test.true }
 
 pub loop-pos-preserved : goal.loop-pos-preserved
-loop-pos-preserved c = go_more c.loop-pos.invariant c.loop-pos-test.true _ c.byte_at-b.ensures.0 c.if-b-lt128.false c.byte_at-b.ensures.1
+loop-pos-preserved c =
+    go_more c.loop-pos.invariant c.loop-pos-test.true _ c.byte_at-b.ensures.0 c.if-b-lt128.false c.byte_at-b.ensures.1
 
 pub returns-then-end-pos : goal.returns-then-end-pos
 returns-then-end-pos c = c.refused-then-end-pos.ensures ∙ go_past c.loop-pos.invariant c.if-end-pos.true
 
 pub returns-then-tenth-gt1 : goal.returns-then-tenth-gt1
-returns-then-tenth-gt1 c = c.refused-then-tenth-gt1.ensures ∙ go_tenth c.loop-pos.invariant c.loop-pos-test.false c.if-end-pos.false _ c.byte_at-tenth.ensures.0 c.if-tenth-gt1.true
+returns-then-tenth-gt1 c =
+    c.refused-then-tenth-gt1.ensures
+    ∙ go_tenth c.loop-pos.invariant c.loop-pos-test.false c.if-end-pos.false _ c.byte_at-tenth.ensures.0 c.if-tenth-gt1.true
 
 pub overflow_mul-result-2 : goal.overflow_mul-result-2
-overflow_mul-result-2 c = record { fits = omega (arith, go_fits c.loop-pos.invariant c.loop-pos-test.false c.if-end-pos.false c.byte_at-tenth.result c.if-tenth-gt1.false) }
+overflow_mul-result-2 c = record {
+  fits = omega (
+    arith,
+    go_fits c.loop-pos.invariant c.loop-pos-test.false c.if-end-pos.false c.byte_at-tenth.result
+        c.if-tenth-gt1.false,
+  );
+}
 
 pub overflow_add-result-2 : goal.overflow_add-result-2
-overflow_add-result-2 c = record { fits = go_fits c.loop-pos.invariant c.loop-pos-test.false c.if-end-pos.false c.byte_at-tenth.result c.if-tenth-gt1.false }
+overflow_add-result-2 c = record {
+  fits = go_fits c.loop-pos.invariant c.loop-pos-test.false c.if-end-pos.false c.byte_at-tenth.result c.if-tenth-gt1.false;
+}
 
 pub returns : goal.returns
 unfolding varint_says

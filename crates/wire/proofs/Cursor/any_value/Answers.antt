@@ -12,10 +12,13 @@ returns-in-Read c = c.sized_field.ensures ∙ number_read _ _ _ c.read_shortest.
 
 pub returns-in-Refused-read_shortest : goal.returns-in-Refused-read_shortest
 unfolding field_says
-returns-in-Refused-read_shortest c = length_refused _ _ _ c.read_shortest-then-wire-eq-LEN.ensures c.if-wire-eq-LEN.true c.in-Refused-read_shortest.is
+returns-in-Refused-read_shortest c =
+    length_refused _ _ _ c.read_shortest-then-wire-eq-LEN.ensures c.if-wire-eq-LEN.true c.in-Refused-read_shortest.is
 
 pub returns-in-Read-read_shortest : goal.returns-in-Read-read_shortest
-returns-in-Read-read_shortest c = c.sized_field-in-Read-read_shortest.ensures ∙ length_read _ _ _ c.read_shortest-then-wire-eq-LEN.ensures c.if-wire-eq-LEN.true c.in-Read-read_shortest.is
+returns-in-Read-read_shortest c =
+    c.sized_field-in-Read-read_shortest.ensures
+    ∙ length_read _ _ _ c.read_shortest-then-wire-eq-LEN.ensures c.if-wire-eq-LEN.true c.in-Read-read_shortest.is
 
 pub returns-then-wire-eq-I64 : goal.returns-then-wire-eq-I64
 returns-then-wire-eq-I64 c = c.sized_field-then-wire-eq-I64.ensures ∙ eight_read _ _ _ c.if-wire-eq-I64.true

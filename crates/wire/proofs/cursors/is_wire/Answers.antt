@@ -13,7 +13,8 @@ returns-then-wire-eq-I64 c = simp (ne_eqb _ _ c.if-wire-eq-VARINT.false, eq-eqb 
 
 pub returns-then-wire-eq-LEN : goal.returns-then-wire-eq-LEN
 unfolding contains
-returns-then-wire-eq-LEN c = simp (ne_eqb _ _ c.if-wire-eq-VARINT.false, ne_eqb _ _ c.if-wire-eq-I64.false, eq-eqb _ _ c.if-wire-eq-LEN.true)
+returns-then-wire-eq-LEN c =
+    simp (ne_eqb _ _ c.if-wire-eq-VARINT.false, ne_eqb _ _ c.if-wire-eq-I64.false, eq-eqb _ _ c.if-wire-eq-LEN.true)
 
 pub returns : goal.returns
 returns c = no_other_wire _ c.if-wire-eq-VARINT.false c.if-wire-eq-I64.false c.if-wire-eq-LEN.false

@@ -12,4 +12,9 @@ pub returns-then-end-from-2 : goal.returns-then-end-from-2
 returns-then-end-from-2 c = λ h. absurd (omega arith)
 
 pub returns : goal.returns
-returns c = λ h. record { size = c.fixed_size-size.result; fixed = c.fixed_size-size.ensures (omega arith); is = refl; inside = omega arith }
+returns c = λ h. record {
+  size = c.fixed_size-size.result;
+  fixed = c.fixed_size-size.ensures (omega arith);
+  is = refl;
+  inside = omega arith;
+}

@@ -23,7 +23,8 @@ returns-then-n-ge128 c = λ h. absurd (omega arith)
 
 pub returns-then-wire-eq-VARINT : goal.returns-then-wire-eq-VARINT
 unfolding byte
-returns-then-wire-eq-VARINT c = λ h. short_number _ _ _ (omega arith) (omega arith) (omega arith) (omega arith) (omega arith) (omega arith) (omega arith)
+returns-then-wire-eq-VARINT c =
+    λ h. short_number _ _ _ (omega arith) (omega arith) (omega arith) (omega arith) (omega arith) (omega arith) (omega arith)
 
 pub returns-then-wire-ne-LEN : goal.returns-then-wire-ne-LEN
 returns-then-wire-ne-LEN c = λ h. absurd (omega arith)
@@ -33,4 +34,6 @@ returns-then-room-size c = λ h. absurd (omega arith)
 
 pub returns : goal.returns
 unfolding byte
-returns c = λ h. short_length _ _ _ (omega arith) (omega arith) (omega arith) (omega arith) (omega arith) (omega arith) (omega arith) (omega arith)
+returns c =
+    λ h. short_length _ _ _ (omega arith) (omega arith) (omega arith) (omega arith) (omega arith) (omega arith) (omega arith)
+    (omega arith)

@@ -21,7 +21,8 @@ unfolding byte
 returns-then-b-lt128 c =
     λ h.
     let q = c.end_of.ensures h in
-    few_two _ _ _ _ c.wide-a.ensures.0 c.if-a-lt128.false c.wide-a.ensures.1 _ c.wide-b.ensures.0 (omega arith) q.1 (omega arith) q.0 c.if-b-lt128.true
+    few_two _ _ _ _ c.wide-a.ensures.0 c.if-a-lt128.false c.wide-a.ensures.1 _ c.wide-b.ensures.0 (omega arith) q.1 (omega arith)
+    q.0 c.if-b-lt128.true
 
 pub returns-then-end-at-3 : goal.returns-then-end-at-3
 returns-then-end-at-3 c = λ h. absurd (omega (arith, c.unread-then-end-at-3.ensures))
@@ -31,7 +32,8 @@ unfolding byte
 returns-then-c-lt128 c =
     λ h.
     let q = c.end_of-then-c-lt128.ensures h in
-    few_three _ _ _ _ c.wide-a.ensures.0 c.if-a-lt128.false c.wide-a.ensures.1 _ c.wide-b.ensures.0 c.if-b-lt128.false c.wide-b.ensures.1
+    few_three _ _ _ _ c.wide-a.ensures.0 c.if-a-lt128.false c.wide-a.ensures.1 _ c.wide-b.ensures.0 c.if-b-lt128.false
+    c.wide-b.ensures.1
     _ c.wide-c.ensures.0 (omega arith) q.1 (omega arith) q.0 c.if-c-lt128.true
 
 pub returns : goal.returns

@@ -17,7 +17,9 @@ loop-i-init c = skip_start _ _ _ (omega arith)
 
 pub returns-then-b-lt128 : goal.returns-then-b-lt128
 unfolding byte
-returns-then-b-lt128 c = λ h. let q = c.end_of.ensures h in skip_last c.loop-i.invariant c.wide-b.ensures.0 c.loop-i-test.true q.0 c.if-b-lt128.true q.1
+returns-then-b-lt128 c =
+    λ h. let q = c.end_of.ensures h in skip_last c.loop-i.invariant c.wide-b.ensures.0 c.loop-i-test.true q.0 c.if-b-lt128.true
+    q.1
 
 pub loop-i-preserved : goal.loop-i-preserved
 unfolding byte
