@@ -397,12 +397,27 @@ def substitute(text, table):
     return "".join(out)
 
 
+def declaration(lines, name):
+    """The type of a declaration, its `unfolding` lines, and its definition; no type where the lines declare nothing."""
+    typed, defined = list(lines), []
+    for i, it in enumerate(lines):
+        if i and (it.split(" ")[0] == name or it.startswith("unfolding")):
+            typed, defined = lines[:i], lines[i:]
+            break
+    signature = re.sub(r"\s+", " ", " ".join(typed))
+    k = 0
+    if defined and defined[0].startswith("unfolding"):
+        k = 1
+        while k < len(defined) and defined[k].startswith(" "):
+            k += 1
+    return signature.split(" : ", 1)[1] if " : " in signature else "", defined[:k], "\n".join(defined[k:])
+
+
 def turn(path, entry, crate, function):
     names = Names(entry)
     names.function = crate + "::" + function.replace(".", "::")
     text = read(path)
     uses, invariants, answers, left = [], [], [], []
-    inv_uses = []
     for lines in items(text):
         comments = [it for it in lines if it.startswith("--")]
         lines = [it for it in lines if not it.startswith("--")]
@@ -419,24 +434,7 @@ def turn(path, entry, crate, function):
             continue
         name = name_of(head)
         whole = "\n".join(lines)
-        typed, defined = [], []
-        for i, it in enumerate(lines):
-            if i and (it.split(" ")[0] == name or it.startswith("unfolding")):
-                defined = lines[i:]
-                break
-            typed.append(it)
-        type_text = re.sub(r"\s+", " ", " ".join(typed)).split(" : ", 1)[1] if " : " in " ".join(typed) else ""
-        unfolding = [it for it in defined if it.startswith("unfolding")]
-        more = []
-        body_lines = defined
-        if unfolding:
-            k = 1
-            while k < len(defined) and defined[k].startswith(" "):
-                more.append(defined[k])
-                k += 1
-            body_lines = defined[k:]
-            unfolding = [defined[0]] + more
-        body = "\n".join(body_lines)
+        type_text, unfolding, body = declaration(lines, name)
         m = re.match(r"tie\.(invariant|decreases)-?(\S*)$", type_text.strip())
         if m:
             it = re.match(r"(\S+)\s*((?:[^\s=]+\s+)*)=\s*", body)
@@ -537,22 +535,9 @@ def turn_cycle(path, found, crate, function):
             continue
         name = name_of(head)
         whole = "\n".join(lines)
-        typed, defined = [], []
-        for i, it in enumerate(lines):
-            if i and (it.split(" ")[0] == name or it.startswith("unfolding")):
-                defined = lines[i:]
-                break
-            typed.append(it)
-        if " : " not in " ".join(typed):
+        type_text, unfolding, body = declaration(lines, name)
+        if not type_text:
             continue
-        type_text = re.sub(r"\s+", " ", " ".join(typed)).split(" : ", 1)[1]
-        unfolding = []
-        if defined and defined[0].startswith("unfolding"):
-            k = 1
-            while k < len(defined) and defined[k].startswith(" "):
-                k += 1
-            unfolding, defined = defined[:k], defined[k:]
-        body = "\n".join(defined)
         it = re.match(r"(\S+)\s*((?:[^\s=]+\s+)*)=\s*", body)
         binders, rest = it.group(2).split(), body[it.end() :]
         m = re.match(r"([\w-]+)-lts\.(invariant|decreases)-?(\S*)$", type_text.strip())
