@@ -104,7 +104,8 @@ module _ (model : Bytes) (full : ℕ → Bool) where
     unfolding body leaving
     body_most w f = tells_bind (λ v. v.odd ≤ w.odd + length (inner f)) (λ v. v.odd ≤ w.odd + length (inner f)) Any (nested w f) _ (nest w f) (λ v h. h)
 
-    pub attribute_most : (s : Surroundings) (node : Field) (w : Walk) (f : Field) → AtMost w (length (attribute_names model inner f)) (attribute_again model full nested s node w f)
+    pub attribute_most : (s : Surroundings) (node : Field) (w : Walk) (f : Field)
+        → AtMost w (length (attribute_names model inner f)) (attribute_again model full nested s node w f)
     unfolding attribute_again
     attribute_most s node w f =
         let R : Walk → Type 0 = λ v. v.odd ≤ w.odd + length (attribute_names model inner f) in
@@ -115,7 +116,8 @@ module _ (model : Bytes) (full : ℕ → Bool) where
         tells_weaken (λ v. v.odd ≤ t.odd + length (flat_map inner bodies)) R Any Any (each (body nested) t bodies) (λ v i. omega arith) (λ r _. tt)
         (each_most inner (body nested) body_most bodies t))
 
-    pub node_most : (s : Surroundings) (graph : Field) (w : Walk) (f : Field) → AtMost w (length (node_names model inner f)) (node_again model full nested s graph w f)
+    pub node_most : (s : Surroundings) (graph : Field) (w : Walk) (f : Field)
+        → AtMost w (length (node_names model inner f)) (node_again model full nested s graph w f)
     unfolding node_again
     node_most s graph w f =
         let m = message model f in

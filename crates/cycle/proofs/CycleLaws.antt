@@ -1,4 +1,6 @@
 -- A loop of the cycle over nodes, attributes or bodies: what `Adding` says, and no more nodes counted than bytes passed.
+use Rattle.std.specs.Prelude.{Err, None, Ok, Some}
+use Rattle.varint.specs.Answers.{Answer}
 use Prim.Native.Nat.{ℕ, ◌+◌, ◌-◌, ◌^◌, ◌≤◌, ◌<◌}
 use native.Mathlib.Omega.{arith}
 use mathlib.Core.Path.{◌≡◌, refl}
@@ -8,12 +10,10 @@ use lib.ListN.{length}
 use Rattle.varint.specs.Outcome.{Judged, each}
 use Rattle.varint.specs.Bytes.{Bytes}
 use Rattle.wire.specs.Wire.{field}
-use Rattle.wire.specs.Answers.{sought_says, contents_of, sought_in}
+use Rattle.wire.specs.Answers.{sought_says, contents_of, sought_in, Sought}
 use Rattle.varint.specs.declared.Refusal.{Refusal}
 use Rattle.wire.specs.declared.Field.{Field}
 use Rattle.wire.specs.declared.Cursor.{Cursor}
-use Rattle.wire.specs.declared.Sought.{Sought}
-use Rattle.wire.specs.declared.Sought.TheVariants as sought
 use Rattle.varint.proofs.Passing.{passed_tells}
 use Rattle.wire.proofs.Reading.{Fits, AtTag, field_tells}
 use Rattle.wire.proofs.Along.{all_from, along_start, along_from, along_past, along_read}
@@ -24,8 +24,6 @@ use Rattle.schema.specs.Opened.{Walked}
 use Rattle.rules.specs.Walk.{Walk}
 use Rattle.scope.specs.Scope.{walk_in, step_says, Countable, grows, Enters, counted, Keeps}
 use Rattle.scope.specs.declared.scopes.Progress.{Progress}
-use Rattle.scope.specs.declared.scopes.Step.{Step}
-use Rattle.scope.specs.declared.scopes.Step.TheVariants as step
 use Rattle.scope.proofs.StepLaws.{Adder, Counts, Adding, adding_start, adding_done, adding_falls, adding_walked, adding_countable, adding_stops, adding_goes}
 
 pub record Going (model : Bytes) (number end start : ℕ) (names : Field → List Bytes) (rule : Adder) (o : Judged Walk)
@@ -63,10 +61,10 @@ module _ {model : Bytes} {number end start : ℕ} {names : Field → List Bytes}
   going_odd = let h = g.adding.few in omega arith
 
   module _ {a : Sought} (read : sought_says a ≡ sought_in model number c.end c.at) where
-    pub going_done : a ≡ sought.Missing → (step_says model cells (step.Went q) ≡ o) × (grows p (step.Went q) × Keeps p.used first cells)
+    pub going_done : a ≡ None → (step_says model cells (Ok q) ≡ o) × (grows p (Ok q) × Keeps p.used first cells)
     going_done e = adding_done g.adding read e
 
-    module _ {f : Field} {next : Cursor} (e : a ≡ sought.Found f next) where
+    module _ {f : Field} {next : Cursor} (e : a ≡ Some (f, next)) where
       pub going_falls : end - next.at < end - c.at
       going_falls = adding_falls g.adding read e
 
@@ -94,12 +92,12 @@ module _ {model : Bytes} {number end start : ℕ} {names : Field → List Bytes}
           let a = fits.1 in let b = fits.2 in let d = fits.3 in omega arith
 
       -- r is the answer for the field, with the cells `later`
-      module _ {later : List ℕ} (r : Step) (answer : step_says model later r ≡ rule (length cells) (walk_in model cells q) f) (more : grows q r)
+      module _ {later : List ℕ} (r : Answer Progress) (answer : step_says model later r ≡ rule (length cells) (walk_in model cells q) f) (more : grows q r)
           (kept : Keeps q.used cells later) where
-        pub going_stops : {x : Refusal} → r ≡ step.Refused x → (step_says model later r ≡ o) × Keeps p.used first later
+        pub going_stops : {x : Refusal} → r ≡ Err x → (step_says model later r ≡ o) × Keeps p.used first later
         going_stops k = let s = adding_stops g.adding read e r answer more kept k in (s.0, s.1.1)
 
-        pub going_goes : Counts names rule → counted f q r → {u : Progress} → r ≡ step.Went u → Going model number end start names rule o first p later u next
+        pub going_goes : Counts names rule → counted f q r → {u : Progress} → r ≡ Ok u → Going model number end start names rule o first p later u next
         unfolding counted
         going_goes most n {u} k =
             let low = along_from g.adding.along read e in

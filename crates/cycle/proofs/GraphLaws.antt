@@ -1,4 +1,6 @@
 -- A graph as the cycle puts it together: each way out of the function, with all that it promises.
+use Rattle.std.specs.Prelude.{Err, None, Ok, Some}
+use Rattle.varint.specs.Answers.{Answer}
 use Prim.Native.Nat.{ℕ, zero, suc, ◌+◌, ◌-◌, ◌^◌, ◌≤◌, ◌<◌}
 use native.Mathlib.Omega.{arith}
 use mathlib.Core.Path.{◌≡◌, refl, sym, ap, subst, ◌∙◌}
@@ -10,10 +12,8 @@ use Rattle.varint.specs.declared.Refusal.{Refusal}
 use Rattle.wire.specs.declared.Field.{Field}
 use Rattle.varint.specs.Bytes.{Bytes}
 use Rattle.wire.specs.Message.{all_of, message}
-use Rattle.wire.specs.Answers.{contents_of, sought_says, sought_in}
+use Rattle.wire.specs.Answers.{contents_of, sought_says, sought_in, Sought}
 use Rattle.wire.specs.declared.Cursor.{Cursor}
-use Rattle.wire.specs.declared.Sought.{Sought}
-use Rattle.wire.specs.declared.Sought.TheVariants as sought
 use Rattle.wire.proofs.Along.{all_from, along_contents}
 use Rattle.varint.proofs.Answers.{says}
 use Rattle.varint.proofs.Passing.{passed_tells}
@@ -29,10 +29,7 @@ use Rattle.values.specs.Answers.{tally_says, Addable}
 use Rattle.messages.specs.Around.{inside, context}
 use Rattle.messages.specs.Again.{opening_names, opening, node_again, graph_from, graph_again}
 use Rattle.messages.specs.declared.contexts.Surroundings.{Surroundings}
-use Rattle.values.specs.declared.tallies.Tally.{Tally}
 use Rattle.scope.specs.declared.scopes.Progress.{Progress}
-use Rattle.scope.specs.declared.scopes.Step.{Step}
-use Rattle.scope.specs.declared.scopes.Step.TheVariants as step
 use Rattle.scope.proofs.ScopeLaws.{keeps_fewer, keeps_then}
 use Rattle.scope.proofs.StepLaws.{Counts, counting_says, grew_few}
 use Rattle.cycle.proofs.CycleLaws.{Going, enters_low, going_few, going_odd, going_done, going_stops}
@@ -48,7 +45,8 @@ pub nodes_count : (model : Bytes) (depth : ℕ) (around : Surroundings) (f : Fie
     → Counts (node_names model (names_in model depth false)) (λ size. node_again model (fills size) (Nested model depth around size) around f)
 unfolding inside
 nodes_count model depth around f size w n =
-    node_most model (fills size) (Nested model depth around size) (names_in model depth false) (again_most model (fills size) depth (inside around)) around f w n
+    node_most model (fills size) (Nested model depth around size) (names_in model depth false)
+    (again_most model (fills size) depth (inside around)) around f w n
 
 -- the names of the graphs inside, and room to count those of the whole
 abbrev Inner : (model : Bytes) (depth : ℕ) → Field → List Bytes
@@ -92,27 +90,30 @@ module _ (model : Bytes) (depth : ℕ) (around : Surroundings) (cells : List ℕ
   Opened v = Nodes (length cells) v (all_of Graph-node (message model f)) >>= Outputs
 
   -- s is the answer of opening it, with the cells `later`
-  module _ (h : depth ≡ 0 → ⊥) (later : List ℕ) (s : Step) (opened : step_says model later s ≡ Opening) (kept : Keeps p.used cells later) where
+  module _ (h : depth ≡ 0 → ⊥) (later : List ℕ) (s : Answer Progress) (opened : step_says model later s ≡ Opening) (kept : Keeps p.used cells later) where
     graph_by : (Opening >>= Opened) ≡ Graph
     unfolding graph_again graph_from Opened Outputs
     graph_by = go depth h
       where
         go : (d : ℕ) → (d ≡ 0 → ⊥)
             → (Opening
-            >>= λ v. each (node_again model (fills (length cells)) (Nested model (d - 1) around (length cells)) around f) v (all_of Graph-node (message model f))
+            >>= λ v. each (node_again model (fills (length cells)) (Nested model (d - 1) around (length cells)) around f) v
+            (all_of Graph-node (message model f))
             >>= λ n. each (output model (context model around)) n (all_of Graph-output (message model f)))
             ≡ graph_again model (fills (length cells)) d around (walk_in model cells p) f
         go zero i = absurd (i refl)
         go (suc d) i = let e : suc d - 1 ≡ d = omega arith in rw e refl
 
-    pub graph_unopened : {x : Refusal} → s ≡ step.Refused x → Promised model Graph cells later p f s
+    pub graph_unopened : {x : Refusal} → s ≡ Err x → Promised model Graph cells later p f s
     graph_unopened k = refusing model p k (refused_bind model later Opened opened k ∙ graph_by) kept
 
-    module _ {first : Progress} (k : s ≡ step.Went first) where
+    module _ {first : Progress} (k : s ≡ Ok first) where
       -- nothing is counted before the nodes
       pub graph_still : first.nodes ≡ p.nodes
       unfolding step_says walk_in
-      graph_still = opening_stays model (fills (length cells)) around (walk_in model cells p) f (walk_in model later first) (sym (says (step_says model later) opened k))
+      graph_still =
+          opening_stays model (fills (length cells)) around (walk_in model cells p) f (walk_in model later first)
+          (sym (says (step_says model later) opened k))
 
       pub first_low : {kind : Kind} → Enters model kind p f → first.nodes + f.next ≤ f.start + 2 ^ 33
       first_low n = let low = enters_low n in let still = graph_still in omega arith
@@ -148,7 +149,7 @@ module _ (model : Bytes) (depth : ℕ) (around : Surroundings) (cells : List ℕ
             (λ size. node_again model (fills size) (Nested model (depth - 1) around size) around f)
             (Nodes (length later) (walk_in model later first) (all_from model Graph-node f.next f.start)) later first now q c) where
           -- r is the tally of the outputs
-          module _ (r : Tally) (ruled : (k : Context) (w : Walk) → k.main ≡ around.main → w.scope ≡ scope_in model now q.used
+          module _ (r : Answer ℕ) (ruled : (k : Context) (w : Walk) → k.main ≡ around.main → w.scope ≡ scope_in model now q.used
               → tally_says w r ≡ each (output model k) w (all_of Graph-output (message model f))) where
             pub outputs_fit : Countable p (names_in model depth around.main f) → Addable q.odd r
             unfolding Countable all_from all_of message context
@@ -161,18 +162,19 @@ module _ (model : Bytes) (depth : ℕ) (around : Surroundings) (cells : List ℕ
                 (λ w e. ruled (context model around) w refl e) i) (omega arith)
 
           module _ {a : Sought} (read : sought_says a ≡ sought_in model Graph-node c.end c.at) where
-            module _ {d : Field} {next : Cursor} (e : a ≡ sought.Found d next) {last : List ℕ} (t : Step)
-                (judged : step_says model last t ≡ node_again model (fills (length now)) (Nested model (depth - 1) around (length now)) around f (walk_in model now q) d)
+            module _ {d : Field} {next : Cursor} (e : a ≡ Some (d, next)) {last : List ℕ} (t : Answer Progress)
+                (judged : step_says model last t
+                ≡ node_again model (fills (length now)) (Nested model (depth - 1) around (length now)) around f (walk_in model now q) d)
                 (on : grows q t) (held : Keeps q.used now last) where
-              pub nodes_stop : {x : Refusal} → t ≡ step.Refused x → Promised model Graph cells last p f t
+              pub nodes_stop : {x : Refusal} → t ≡ Err x → Promised model Graph cells last p f t
               nodes_stop i =
                   let u = going_stops g read e t judged on held i in
                   refusing model p i (refused_bind model last Outputs u.0 i ∙ nodes_by) (keeps_then kept (keeps_fewer first_more u.1))
 
-            pub nodes_done : {kind : Kind} → Enters model kind p f → a ≡ sought.Missing → (r : Tally)
+            pub nodes_done : {kind : Kind} → Enters model kind p f → a ≡ None → (r : Answer ℕ)
                 → ((k : Context) (w : Walk) → k.main ≡ around.main → w.scope ≡ scope_in model now q.used
                 → tally_says w r ≡ each (output model k) w (all_of Graph-output (message model f)))
-                → {t : Step} → t ≡ counting q r
+                → {t : Answer Progress} → t ≡ counting q r
                 → Promised model Graph cells now p f t
             unfolding Outputs context walk_in step_says counted ◌>>=◌
             nodes_done n e r ruled {t} i =
@@ -187,7 +189,7 @@ module _ (model : Bytes) (depth : ℕ) (around : Surroundings) (cells : List ℕ
                       ∙ ruled (context model around) (walk_in model now q) refl refl
                       ∙ ap (λ (o : Judged Walk). o >>= Outputs) d.0
                       ∙ nodes_by;
-                  grown = rw i (counting_more p q r (grows_then p first (step.Went q) (subst (grows p) k more) d.1.0));
+                  grown = rw i (counting_more p q r (grows_then p first (Ok q) (subst (grows p) k more) d.1.0));
                   counts = rw i (counting_counts f p q r at_most);
                   kept = keeps_then kept (keeps_fewer first_more d.1.1);
                 }

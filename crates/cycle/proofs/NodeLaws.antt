@@ -1,4 +1,6 @@
 -- A node as the cycle puts it together: each way out of the function, with all that it promises.
+use Rattle.std.specs.Prelude.{Err, None, Ok, Some}
+use Rattle.varint.specs.Answers.{Answer}
 use Prim.Native.Nat.{ℕ, ◌+◌, ◌^◌, ◌≤◌, ◌<◌}
 use native.Mathlib.Omega.{arith}
 use mathlib.Core.Path.{◌≡◌, refl, sym, ap, ◌∙◌}
@@ -10,10 +12,8 @@ use Rattle.varint.specs.declared.Refusal.{Refusal}
 use Rattle.wire.specs.declared.Field.{Field}
 use Rattle.varint.specs.Bytes.{Bytes}
 use Rattle.wire.specs.Message.{all_of, message}
-use Rattle.wire.specs.Answers.{contents_of, sought_says, sought_in}
+use Rattle.wire.specs.Answers.{contents_of, sought_says, sought_in, Sought}
 use Rattle.wire.specs.declared.Cursor.{Cursor}
-use Rattle.wire.specs.declared.Sought.{Sought}
-use Rattle.wire.specs.declared.Sought.TheVariants as sought
 use Rattle.wire.proofs.Along.{all_from, along_contents}
 use Rattle.schema.specs.Numbers.{Node-input, Node-output, Node-attribute}
 use Rattle.rules.specs.Names.{Name}
@@ -26,10 +26,7 @@ use Rattle.values.specs.Answers.{tally_says, Addable}
 use Rattle.messages.specs.Around.{inside}
 use Rattle.messages.specs.Again.{field_names, node_rules, closing, attribute_again, node_again}
 use Rattle.messages.specs.declared.contexts.Surroundings.{Surroundings}
-use Rattle.values.specs.declared.tallies.Tally.{Tally}
 use Rattle.scope.specs.declared.scopes.Progress.{Progress}
-use Rattle.scope.specs.declared.scopes.Step.{Step}
-use Rattle.scope.specs.declared.scopes.Step.TheVariants as step
 use Rattle.scope.proofs.ScopeLaws.{keeps_fewer, keeps_then}
 use Rattle.scope.proofs.StepLaws.{Adder, Counts, counting_few}
 use Rattle.cycle.proofs.CycleLaws.{Going, enters_low, going_few, going_odd, going_done, going_stops}
@@ -61,7 +58,8 @@ module _ (model : Bytes) (depth : ℕ) (p : Progress) (f : Field) (room : Counta
   unfolding Countable
   node_inputs_room = let names = node_names_lem model (names_in model depth false) f in omega arith
 
-  pub node_fits : (around : Surroundings) (graph : Field) (scope : List Name) (t : Tally) → ((w : Walk) → w.scope ≡ scope → tally_says w t ≡ node_rules model around graph w f) → Addable p.odd t
+  pub node_fits : (around : Surroundings) (graph : Field) (scope : List Name) (t : Answer ℕ)
+      → ((w : Walk) → w.scope ≡ scope → tally_says w t ≡ node_rules model around graph w f) → Addable p.odd t
   unfolding Countable
   node_fits around graph scope t ruled =
       let names = node_names_lem model (names_in model depth false) f in
@@ -73,18 +71,20 @@ pub attributes_count : (model : Bytes) (depth : ℕ) (around : Surroundings) (f 
     → Counts (attribute_names model (names_in model depth false)) (λ size. attribute_again model (fills size) (Nested model depth around size) around f)
 unfolding inside
 attributes_count model depth around f size w a =
-    attribute_most model (fills size) (Nested model depth around size) (names_in model depth false) (again_most model (fills size) depth (inside around)) around f w a
+    attribute_most model (fills size) (Nested model depth around size) (names_in model depth false)
+    (again_most model (fills size) depth (inside around)) around f w a
 
 -- t is the tally of its rules, and s the step of that, which only counts
-pub node_first : (model : Bytes) (around : Surroundings) (graph : Field) (scope : List Name) (p : Progress) (f : Field) (t : Tally)
+pub node_first : (model : Bytes) (around : Surroundings) (graph : Field) (scope : List Name) (p : Progress) (f : Field) (t : Answer ℕ)
     → ((w : Walk) → w.scope ≡ scope → tally_says w t ≡ node_rules model around graph w f)
-    → {s : Step} → s ≡ counting p t → {first : Progress} → s ≡ step.Went first
+    → {s : Answer Progress} → s ≡ counting p t → {first : Progress} → s ≡ Ok first
     → (first.used ≡ p.used) × (first.nodes ≡ p.nodes)
     × (first.odd ≤ p.odd + (2 + length (flat_map (field_names model) (all_of Node-input (message model f)))))
 node_first model around graph scope p f t ruled stepped k = counting_few p t _ (λ l i. rules_few model around graph f scope ruled i) stepped k
 
-module _ (model : Bytes) (depth : ℕ) (around : Surroundings) (graph : Field) (cells : List ℕ) (p : Progress) (f : Field) (t : Tally)
-    (ruled : (w : Walk) → w.scope ≡ scope_in model cells p.used → tally_says w t ≡ node_rules model around graph w f) {s : Step} (stepped : s ≡ counting p t) where
+module _ (model : Bytes) (depth : ℕ) (around : Surroundings) (graph : Field) (cells : List ℕ) (p : Progress) (f : Field) (t : Answer ℕ)
+    (ruled : (w : Walk) → w.scope ≡ scope_in model cells p.used → tally_says w t ≡ node_rules model around graph w f)
+    {s : Answer Progress} (stepped : s ≡ counting p t) where
   abbrev Node : Judged Walk
   Node = node_again model (fills (length cells)) (Nested model depth around (length cells)) around graph (walk_in model cells p) f
 
@@ -98,11 +98,11 @@ module _ (model : Bytes) (depth : ℕ) (around : Surroundings) (graph : Field) (
   unfolding walk_in
   here = ruled (walk_in model cells p) refl
 
-  pub node_stops : {x : Refusal} → s ≡ step.Refused x → Promised model Node cells cells p f s
+  pub node_stops : {x : Refusal} → s ≡ Err x → Promised model Node cells cells p f s
   unfolding node_again Closed
   node_stops k = headed_stops model cells p (λ w. Closed (Attributes (all_of Node-attribute (message model f)) w)) t here stepped k
 
-  module _ {first : Progress} (k : s ≡ step.Went first) where
+  module _ {first : Progress} (k : s ≡ Ok first) where
     begun : (first.used ≡ p.used) × (first.nodes ≡ p.nodes)
         × (first.odd ≤ p.odd + (2 + length (flat_map (field_names model) (all_of Node-input (message model f)))))
     begun = node_first model around graph (scope_in model cells p.used) p f t ruled stepped k
@@ -135,28 +135,28 @@ module _ (model : Bytes) (depth : ℕ) (around : Surroundings) (graph : Field) (
           omega arith
 
       module _ {a : Sought} (read : sought_says a ≡ sought_in model Node-attribute c.end c.at) where
-        module _ {d : Field} {next : Cursor} (e : a ≡ sought.Found d next) {last : List ℕ} (r : Step)
+        module _ {d : Field} {next : Cursor} (e : a ≡ Some (d, next)) {last : List ℕ} (r : Answer Progress)
             (judged : step_says model last r
             ≡ attribute_again model (fills (length later)) (Nested model depth around (length later)) around f (walk_in model later q) d) (more : grows q r)
             (kept : Keeps q.used later last) where
-          pub attributes_stop : {x : Refusal} → r ≡ step.Refused x → Promised model Node cells last p f r
+          pub attributes_stop : {x : Refusal} → r ≡ Err x → Promised model Node cells last p f r
           unfolding Closed
           attributes_stop i =
               let u = going_stops g read e r judged more kept i in
               promised_first begun.0 begun.1 (refusing model first i (refused_bind model last _ u.0 i ∙ node_by) u.1)
 
         -- r is the answer of closing it, with the cells `last`
-        module _ {kind : Kind} (n : Enters model kind p f) (e : a ≡ sought.Missing) {last : List ℕ} (r : Step)
+        module _ {kind : Kind} (n : Enters model kind p f) (e : a ≡ None) {last : List ℕ} (r : Answer Progress)
             (closed : step_says model last r ≡ closing model (fills (length later)) (walk_in model later q) f) (more : grows q r)
             (kept : Keeps q.used later last) where
-          one_more : (u : Step) → step_says model last u ≡ closing model (fills (length later)) (walk_in model later q) f → counted f first u
+          one_more : (u : Answer Progress) → step_says model last u ≡ closing model (fills (length later)) (walk_in model later q) f → counted f first u
           unfolding step_says counted walk_in
-          one_more (step.Went u) h =
+          one_more (Ok u) h =
               let one : u.nodes ≡ q.nodes + 1 = closing_counts model (fills (length later)) (walk_in model later q) f (walk_in model last u) (sym h) in
               let few = going_few g in
               let tagged = n.tagged in
               omega arith
-          one_more (step.Refused x) h = tt
+          one_more (Err x) h = tt
 
           pub attributes_done : Promised model Node cells last p f r
           unfolding Closed step_says ◌>>=◌

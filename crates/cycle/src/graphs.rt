@@ -16,10 +16,11 @@ use index::Listing;
 use messages::Surroundings;
 use nodes::{attribute_head, closing, graph_outputs, node_rules};
 use parts::opening;
-use scope::{Index, Progress, Step, counting, leaving, list, stopped};
+use scope::{Index, Progress, counting, leaving, list};
 use values::numbers::{ATTRIBUTE_NAME, ATTRIBUTE_TYPE, GRAPH_NODE, NODE_ATTRIBUTE, NODE_NAME};
-use values::{Ruling, carrier_of, is_body};
-use wire::{Field, Sought};
+use values::{carrier_of, is_body};
+use varint::{Refusal, refused};
+use wire::Field;
 
 // "its name (20, 21); 16; inputs; initializers; nodes; outputs, each in list order whatever the field order on the wire"
 #[cycle(attribute_graph_node)]
@@ -33,7 +34,7 @@ pub fn graph(
     s: Surroundings,
     p: Progress,
     f: Field,
-) -> Step
+) -> Result<Progress, Refusal>
     requires enters { Enters model.now Graph p f }
     requires minds { Minds model.now (imports_of model.now s) (attributes_of model.now s) ix top cells.old extra.old }
     requires countable { Countable p (names_in model.now left s.main f) }
@@ -45,32 +46,23 @@ pub fn graph(
     ensures memory { Minded model.now ix top cells.new extra.old extra.new }
 {
     if left == 0 {
-        return stopped(Ruling::TOO_DEEP, f.place);
+        return refused(Refusal::TOO_DEEP, f.place);
     }
-    let opened = opening(model, cells, extra, ix, top, s, p, f);
-    let Step::Went(first) = opened else {
-        return opened;
-    };
+    let first = opening(model, cells, extra, ix, top, s, p, f)?;
     let mut c = f.contents();
     let mut q = first;
     let mut l = Listing {
         base: top,
-        top: top,
+        top,
         whole: true,
     };
-    loop {
-        let sought = c.next_of(model, GRAPH_NODE);
-        let Sought::Found(n, next) = sought else {
-            return counting(q, graph_outputs(model, cells, extra, ix, q.used, s.main, f));
-        };
-        let step = node(model, cells, extra, ix, l, left - 1, s, f, q, n);
-        let Step::Went(further) = step else {
-            return step;
-        };
+    while let Some((n, next)) = c.next_of(model, GRAPH_NODE) {
+        let further = node(model, cells, extra, ix, l, left - 1, s, f, q, n)?;
         l = list(model, extra, ix, l, n, NODE_NAME);
         q = further;
         c = next;
     }
+    counting(q, graph_outputs(model, cells, extra, ix, q.used, s.main, f))
 }
 
 // "Node: op_type (27, 21); 28; a nonempty node name (21, 29); inputs; attributes; 34; outputs." Of a graph, or of a function: `graph` is the one that has it.
@@ -86,7 +78,7 @@ pub fn node(
     graph: Field,
     p: Progress,
     f: Field,
-) -> Step
+) -> Result<Progress, Refusal>
     requires enters { Enters model.now Node p f }
     requires minds { Minds model.now (imports_of model.now s) (attributes_of model.now s) ix l.top cells.old extra.old }
     requires listed { Listed model.now ix.seed (drop ix.split extra.old) l (earlier_in model.now s.nodes Node-name graph f) }
@@ -97,13 +89,10 @@ pub fn node(
     ensures kept { Keeps p.used cells.old cells.new }
     ensures memory { Minded model.now ix l.top cells.new extra.old extra.new }
 {
-    let headed = counting(
+    let first = counting(
         p,
         node_rules(model, cells, extra, ix, l, p.used, s, graph, f),
-    );
-    let Step::Went(first) = headed else {
-        return headed;
-    };
+    )?;
     let mut c = f.contents();
     let mut q = first;
     let mut own = Listing {
@@ -111,19 +100,13 @@ pub fn node(
         top: l.top,
         whole: true,
     };
-    loop {
-        let sought = c.next_of(model, NODE_ATTRIBUTE);
-        let Sought::Found(a, next) = sought else {
-            return closing(model, cells, extra, ix, q, f);
-        };
-        let step = attribute(model, cells, extra, ix, own, left, s, f, q, a);
-        let Step::Went(further) = step else {
-            return step;
-        };
+    while let Some((a, next)) = c.next_of(model, NODE_ATTRIBUTE) {
+        let further = attribute(model, cells, extra, ix, own, left, s, f, q, a)?;
         own = list(model, extra, ix, own, a, ATTRIBUTE_NAME);
         q = further;
         c = next;
     }
+    closing(model, cells, extra, ix, q, f)
 }
 
 // "Attribute: 22, 21, 31, 33, 32; then its graphs in order"
@@ -139,7 +122,7 @@ fn attribute(
     n: Field,
     p: Progress,
     f: Field,
-) -> Step
+) -> Result<Progress, Refusal>
     requires enters { Enters model.now Attribute p f }
     requires minds { Minds model.now (imports_of model.now s) (attributes_of model.now s) ix l.top cells.old extra.old }
     requires listed { Listed model.now ix.seed (drop ix.split extra.old) l (earlier_in model.now Node-attribute Attribute-name n f) }
@@ -150,26 +133,19 @@ fn attribute(
     ensures kept { Keeps p.used cells.old cells.new }
     ensures memory { Minded model.now ix l.top cells.new extra.old extra.new }
 {
-    let headed = counting(p, attribute_head(model, extra, ix, l, s, n, f));
-    let Step::Went(first) = headed else {
-        return headed;
+    let first = counting(p, attribute_head(model, extra, ix, l, s, n, f))?;
+    let Some(number) = carrier_of(f.number_of(model, ATTRIBUTE_TYPE)) else {
+        return Ok(first);
     };
-    let number = carrier_of(f.number_of(model, ATTRIBUTE_TYPE));
     if !is_body(number) {
-        return Step::Went(first);
+        return Ok(first);
     }
     let mut c = f.contents();
     let mut q = first;
-    loop {
-        let sought = c.next_of(model, number);
-        let Sought::Found(g, next) = sought else {
-            return Step::Went(q);
-        };
-        let step = graph(model, cells, extra, ix, l.top, left, s.nested(), q, g);
-        let Step::Went(inside) = step else {
-            return step;
-        };
+    while let Some((g, next)) = c.next_of(model, number) {
+        let inside = graph(model, cells, extra, ix, l.top, left, s.nested(), q, g)?;
         q = leaving(q, inside);
         c = next;
     }
+    Ok(q)
 }

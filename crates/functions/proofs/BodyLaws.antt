@@ -1,4 +1,6 @@
 -- The body of a function, part by part.
+use Rattle.varint.specs.Answers.{Answer}
+use Rattle.std.specs.Prelude.{Err, Ok}
 use Prim.Native.Nat.{ℕ, ◌+◌, ◌≤◌}
 use native.Mathlib.Omega.{arith}
 use mathlib.Core.Path.{◌≡◌, refl, sym, ap, subst, ◌∙◌}
@@ -26,11 +28,8 @@ use Rattle.rules.proofs.Counting.{Grew, names_each}
 use Rattle.rules.proofs.FunctionCounting.{grew_function_input, grew_function_output}
 use Rattle.rules.proofs.NamesFew.{odds_few}
 use Rattle.values.specs.Answers.{tally_says, Addable}
-use Rattle.values.specs.declared.tallies.Tally.{Tally}
 use Rattle.values.proofs.TallyLaws.{tally_few, addable}
 use Rattle.scope.specs.Scope.{scope_in, walk_in, step_says, counting, Countable, grows, Enters, counted, Keeps}
-use Rattle.scope.specs.declared.scopes.Step.{Step}
-use Rattle.scope.specs.declared.scopes.Step.TheVariants as step
 use Rattle.scope.proofs.ScopeLaws.{keeps_fewer, keeps_then}
 use Rattle.scope.proofs.StepLaws.{counting_says, grew_few}
 use Rattle.scope.specs.declared.scopes.Progress.{Progress}
@@ -129,11 +128,11 @@ module _ (model : Bytes) (left : ℕ) (s : Surroundings) (cells : List ℕ) (p :
   unfolding Countable
   inputs_countable room = let n = body_names_lem model (names_in model left false) f in omega arith
 
-  module _ (later : List ℕ) (b : Step) (bound : step_says model later b ≡ Inputs) (more : grows p b) (kept : Keeps p.used cells later) where
-    pub body_unbound : {x : Refusal} → b ≡ step.Refused x → Promised model Body cells later p f b
+  module _ (later : List ℕ) (b : Answer Progress) (bound : step_says model later b ≡ Inputs) (more : grows p b) (kept : Keeps p.used cells later) where
+    pub body_unbound : {x : Refusal} → b ≡ Err x → Promised model Body cells later p f b
     body_unbound k = refusing model p k (refused_bind model later Rest bound k ∙ body_by) kept
 
-    module _ {q : Progress} (k : b ≡ step.Went q) where
+    module _ {q : Progress} (k : b ≡ Ok q) where
       bound_to : Inputs ≡ pass (walk_in model later q)
       unfolding step_says
       bound_to = sym (says (step_says model later) bound k)
@@ -163,16 +162,16 @@ module _ (model : Bytes) (left : ℕ) (s : Surroundings) (cells : List ℕ) (p :
           ∙ body_by
 
       -- r is the step of its nodes, with the cells `last`
-      module _ (last : List ℕ) (r : Step) (ran : step_says model last r ≡ nodes_again model (fills (length later)) left s (walk_in model later q) f)
+      module _ (last : List ℕ) (r : Answer Progress) (ran : step_says model last r ≡ nodes_again model (fills (length later)) left s (walk_in model later q) f)
           (on : grows q r) (count : counted f q r) (held : Keeps q.used later last) where
         all_kept : Keeps p.used cells last
         all_kept = keeps_then kept (keeps_fewer (used_more p q (subst (grows p) k more)) held)
 
-        pub body_stops : {x : Refusal} → r ≡ step.Refused x → Promised model Body cells last p f r
+        pub body_stops : {x : Refusal} → r ≡ Err x → Promised model Body cells last p f r
         body_stops i = refusing model p i (refused_bind model last Outputs ran i ∙ rest_by) all_kept
 
         -- t is the tally of its outputs
-        module _ {u : Progress} (i : r ≡ step.Went u) (t : Tally)
+        module _ {u : Progress} (i : r ≡ Ok u) (t : Answer ℕ)
             (ruled : (w : Walk) → w.scope ≡ scope_in model last u.used → tally_says w t ≡ each (function_output model) w (all_of Function-output (message model f))) where
           ran_to : nodes_again model (fills (length later)) left s (walk_in model later q) f ≡ pass (walk_in model last u)
           unfolding step_says
@@ -190,7 +189,7 @@ module _ (model : Bytes) (left : ℕ) (s : Surroundings) (cells : List ℕ) (p :
               addable u.odd t u.odd (length names) (omega arith)
               (λ k e. tally_few w (ruled w refl) names (Grew w 0 (odds names)) (λ v a. a.1) (outputs_grew model l w) e) (omega arith)
 
-          pub body_done : {b : Step} → b ≡ counting u t → Promised model Body cells last p f b
+          pub body_done : {b : Answer Progress} → b ≡ counting u t → Promised model Body cells last p f b
           unfolding Outputs walk_in ◌>>=◌ counted
           body_done {b} j =
               let few : u.nodes + f.place ≤ q.nodes + f.next = rw i at count in
@@ -202,7 +201,7 @@ module _ (model : Bytes) (left : ℕ) (s : Surroundings) (cells : List ℕ) (p :
                     ∙ ruled (walk_in model last u) refl
                     ∙ ap (λ (o : Judged Walk). o >>= Outputs) (sym ran_to)
                     ∙ rest_by;
-                grown = rw j (counting_more p u t (grows_then p q (step.Went u) (subst (grows p) k more) (subst (grows q) i on)));
+                grown = rw j (counting_more p u t (grows_then p q (Ok u) (subst (grows p) k more) (subst (grows q) i on)));
                 counts = rw j (counting_counts f p u t at_most);
                 kept = all_kept;
               }

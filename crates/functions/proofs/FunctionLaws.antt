@@ -1,4 +1,6 @@
 -- A function: its signature, and then its body.
+use Rattle.std.specs.Prelude.{Err, Ok}
+use Rattle.varint.specs.Answers.{Answer}
 use Prim.Native.Nat.{ℕ, suc, ◌+◌, ◌-◌, ◌^◌, ◌≤◌, ◌<◌}
 use native.Mathlib.Omega.{arith}
 use mathlib.Core.Path.{◌≡◌, refl, sym, ap, subst}
@@ -19,19 +21,15 @@ use Rattle.rules.specs.Walk.{Walk, start, leaving, afresh}
 use Rattle.rules.specs.Verdict.{fills}
 use Rattle.rules.specs.Count.{node_names, names_in, function_names}
 use Rattle.values.specs.Answers.{more}
-use Rattle.messages.specs.Around.{import_number, attributes_of, imports_of}
+use Rattle.messages.specs.Around.{field_of, import_number, attributes_of, imports_of}
 use Rattle.messages.specs.Again.{field_names}
 use Rattle.signatures.specs.Signature.{default_names, attribute_names, signature_again, signature_says, declares}
 use Rattle.signatures.specs.declared.signatures.Declaration.{Declaration}
-use Rattle.signatures.specs.declared.signatures.Signature.{Signature}
-use Rattle.signatures.specs.declared.signatures.Signature.TheVariants as signature
 use Rattle.signatures.proofs.HeadLaws.{head_most}
 use Rattle.scope.specs.Scope.{scope_in, walk_in, step_says, Enters, Countable, counted}
 use Rattle.scope.specs.Recall.{Recalling, Minds, HeldOn}
 use Rattle.scope.specs.declared.remembered.Index.{Index}
 use Rattle.scope.specs.declared.scopes.Progress.{Progress}
-use Rattle.scope.specs.declared.scopes.Step.{Step}
-use Rattle.scope.specs.declared.scopes.Step.TheVariants as step
 use Rattle.scope.proofs.SplitLaws.{others_put}
 use Rattle.scope.proofs.RecallLaws.{holding, recalling_held, recalling_with}
 use Rattle.cycle.proofs.CountLaws.{AtMost}
@@ -91,28 +89,28 @@ module _ (model list : Bytes) (left v : ℕ) (twice : Bool) (cells : List ℕ) (
   abbrev Begun : Declaration → Progress
   Begun d = record { used = 0; nodes = p.nodes; most = p.most; odd = p.odd + d.odd }
 
-  module _ (r : Signature) (read : (w : Walk) → signature_says w r ≡ signature_again model list twice w f) where
-    signed : {s : Signature} → r ≡ s → (signature_says (afresh (walk_in model cells p)) s >>= λ t. body_again model (fills (length cells)) left (within v f) t f) ≡ Whole
+  module _ (r : Answer Declaration) (read : (w : Walk) → signature_says w r ≡ signature_again model list twice w f) where
+    signed : {s : Answer Declaration} → r ≡ s → (signature_says (afresh (walk_in model cells p)) s >>= λ t. body_again model (fills (length cells)) left (within v f) t f) ≡ Whole
     unfolding function_again
     signed e =
         ap (λ (o : Judged Walk). o >>= λ t. body_again model (fills (length cells)) left (within v f) t f)
         (says (signature_says (afresh (walk_in model cells p))) (read (afresh (walk_in model cells p))) e)
 
-    pub function_unread : {x : Refusal} → r ≡ signature.Refused x → (later : List ℕ) → step_says model later (step.Refused x) ≡ Whole
+    pub function_unread : {x : Refusal} → r ≡ Err x → (later : List ℕ) → step_says model later (Err x) ≡ Whole
     unfolding signature_says step_says ◌>>=◌
     function_unread e later = signed e
 
-    pub function_begun : {d : Declaration} → r ≡ signature.Declared d
+    pub function_begun : {d : Declaration} → r ≡ Ok d
         → body_again model (fills (length cells)) left (within v f) (walk_in model cells (Begun d)) f ≡ Whole
     unfolding signature_says more afresh leaving start walk_in scope_in ◌>>=◌
     function_begun e = signed e
 
     -- ---- what its body goes by
 
-    module _ {d : Declaration} (e : r ≡ signature.Declared d) (seed : ℕ) (lists : List ℕ) (declared : declares model seed lists f r) where
+    module _ {d : Declaration} (e : r ≡ Ok d) (seed : ℕ) (lists : List ℕ) (declared : declares model seed lists f r) where
       few : d.odd ≤ 1 + length (attribute_names model f)
       unfolding declares
-      few = let h : declares model seed lists f (signature.Declared d) = subst (declares model seed lists f) e declared in h.3
+      few = let h : declares model seed lists f (Ok d) = subst (declares model seed lists f) e declared in h.3
 
       pub begun_fits : Countable p (function_names model (names_in model left false) f) → p.odd + d.odd < 2 ^ 64
       unfolding Countable
@@ -123,7 +121,7 @@ module _ (model list : Bytes) (left v : ℕ) (twice : Bool) (cells : List ℕ) (
       begun_countable room = let n = function_names_lem model (names_in model left false) f in let k = few in omega arith
 
 -- its signature was read into the lists
-pub declares_on : (model : Bytes) (ix : Index) (extra : List ℕ) → ix.split ≤ length extra → (new : List ℕ) (f : Field) (r : Signature)
+pub declares_on : (model : Bytes) (ix : Index) (extra : List ℕ) → ix.split ≤ length extra → (new : List ℕ) (f : Field) (r : Answer Declaration)
     → declares model ix.seed new f r
     → declares model ix.seed (drop ix.split (put_mid ix.split (length extra - ix.split) extra new)) f r
 declares_on model ix extra h new f r x = subst (λ (l : List ℕ). declares model ix.seed l f r) (sym (others_put ix.split extra new h)) x
@@ -131,17 +129,17 @@ declares_on model ix extra h new f r x = subst (λ (l : List ℕ). declares mode
 pub begun_enters : {model : Bytes} {kind : Kind} {p q : Progress} {f : Field} → Enters model kind p f → q.nodes ≡ p.nodes → Enters model kind q f
 begun_enters n e = record { short = n.short; walked = n.walked; tagged = n.tagged; ends = n.ends; few = (let few = n.few in omega arith) }
 
-pub begun_counts : (f : Field) (p q : Progress) → q.nodes ≡ p.nodes → (r : Step) → counted f q r → counted f p r
+pub begun_counts : (f : Field) (p q : Progress) → q.nodes ≡ p.nodes → (r : Answer Progress) → counted f q r → counted f p r
 unfolding counted
-begun_counts f p q e (step.Went u) h = omega arith
-begun_counts f p q e (step.Refused x) h = tt
+begun_counts f p q e (Ok u) h = omega arith
+begun_counts f p q e (Err x) h = tt
 
 pub begun_minds : {model : Bytes} {ix : Index} {cells before after : List ℕ} → Recalling model ix cells before → HeldOn model ix before after
-    → (v : ℕ) (f : Field) {r : Signature} → declares model ix.seed (drop ix.split after) f r → {d : Declaration} → r ≡ signature.Declared d
+    → (v : ℕ) (f : Field) {r : Answer Declaration} → declares model ix.seed (drop ix.split after) f r → {d : Declaration} → r ≡ Ok d
     → Minds model (imports_of model (within v f)) (attributes_of model (within v f)) (holding ix d.imports d.attributes) d.imports.listing.top cells after
-unfolding declares imports_of import_number attributes_of within
+unfolding declares field_of imports_of import_number attributes_of within
 begun_minds {model} {ix} {cells} {before} {after} m h v f declared {d} e =
-    let y : declares model ix.seed (drop ix.split after) f (signature.Declared d) = subst (declares model ix.seed (drop ix.split after) f) e declared in
+    let y : declares model ix.seed (drop ix.split after) f (Ok d) = subst (declares model ix.seed (drop ix.split after) f) e declared in
     record {
       recalls = recalling_with (recalling_held m h);
       imported = y.1;

@@ -1,4 +1,6 @@
 -- The inputs and outputs of a function in the order of the code's tests.
+use Rattle.std.specs.Prelude.{Err, Ok}
+use Rattle.varint.specs.Answers.{Answer}
 use Prim.Native.Nat.{ℕ, ◌+◌, ◌≤◌}
 use native.Mathlib.Omega.{arith}
 use mathlib.Core.Path.{◌≡◌, refl, sym, ap, ◌∙◌}
@@ -21,25 +23,23 @@ use Rattle.rules.proofs.Counting.{Grew}
 use Rattle.rules.proofs.FunctionCounting.{grew_function_input, grew_function_output}
 use Rattle.rules.proofs.NamesFew.{odds_few}
 use Rattle.values.specs.Answers.{more, tally_says}
-use Rattle.values.specs.declared.tallies.Tally.{Tally}
-use Rattle.values.specs.declared.tallies.Tally.TheVariants as tally
 use Rattle.values.proofs.TallyLaws.{tallied, untallied, tally_few}
 use Rattle.messages.specs.Again.{field_names}
 use Rattle.scope.proofs.StepLaws.{Counts}
 use Rattle.nodes.proofs.NodeCounts.{seeing}
 
 -- t is the tally of the name
-module _ (model : Bytes) (f : Field) (t : Tally) (e : (w : Walk) → tally_says w t ≡ naming 22 w (name_in model f)) (w : Walk) where
+module _ (model : Bytes) (f : Field) (t : Answer ℕ) (e : (w : Walk) → tally_says w t ≡ naming 22 w (name_in model f)) (w : Walk) where
   module _ (full : ℕ → Bool) where
     input_by : {o : Judged Walk} → naming 22 w (name_in model f) ≡ o → (o >>= λ v. define full v (name_in model f)) ≡ function_input model full w f
     unfolding function_input
     input_by k = ap (λ (o : Judged Walk). o >>= λ v. define full v (name_in model f)) (sym k)
 
-    pub input_bad : {r : Refusal} → t ≡ tally.Refused r → fail r ≡ function_input model full w f
+    pub input_bad : {r : Refusal} → t ≡ Err r → fail r ≡ function_input model full w f
     unfolding ◌>>=◌
     input_bad i = input_by (untallied w (e w) i)
 
-    pub input_new : {k : ℕ} → t ≡ tally.Counted k → define full (more w k) (name_in model f) ≡ function_input model full w f
+    pub input_new : {k : ℕ} → t ≡ Ok k → define full (more w k) (name_in model f) ≡ function_input model full w f
     unfolding ◌>>=◌
     input_new i = input_by (tallied w (e w) i)
 
@@ -50,12 +50,12 @@ module _ (model : Bytes) (f : Field) (t : Tally) (e : (w : Walk) → tally_says 
   unfolding function_output Seen name_in
   output_by k = ap (λ (o : Judged Walk). o >>= Seen) (sym k)
 
-  pub output_bad : {r : Refusal} → t ≡ tally.Refused r → tally_says w t ≡ function_output model w f
+  pub output_bad : {r : Refusal} → t ≡ Err r → tally_says w t ≡ function_output model w f
   unfolding tally_says ◌>>=◌
   output_bad i = ap (tally_says w) i ∙ output_by (untallied w (e w) i)
 
   -- v is whether it is visible in the scope
-  module _ {k : ℕ} (i : t ≡ tally.Counted k) {x : Bytes} (ex : x ≡ text model f) {scope : List Name} (s : w.scope ≡ scope) {v : Bool} (j : v ≡ visible x scope) where
+  module _ {k : ℕ} (i : t ≡ Ok k) {x : Bytes} (ex : x ≡ text model f) {scope : List Name} (s : w.scope ≡ scope) {v : Bool} (j : v ≡ visible x scope) where
     seen : (refuse 35 at: f.place when: not v >> pass (more w k)) ≡ function_output model w f
     unfolding Seen more ◌>>=◌
     seen =
@@ -77,9 +77,9 @@ input_counts model n w f =
     tells_weaken (Grew w 0 (odds (text model f ∷ []))) (λ v. v.odd ≤ w.odd + length (text model f ∷ [])) Any Any (function_input model (fills n) w f)
     (λ v a. let e = a.1 in omega arith) (λ r _. tt) (grew_function_input model (fills n) w f)
 
-pub output_few : (model : Bytes) (scope : List Name) (f : Field) {t : Tally}
+pub output_few : (model : Bytes) (scope : List Name) (f : Field) {t : Answer ℕ}
     → ((w : Walk) → w.scope ≡ scope → tally_says w t ≡ function_output model w f)
-    → {k : ℕ} → t ≡ tally.Counted k → k ≤ length (field_names model f)
+    → {k : ℕ} → t ≡ Ok k → k ≤ length (field_names model f)
 unfolding field_names
 output_few model scope f e i =
     let w = seeing scope in

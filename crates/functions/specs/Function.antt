@@ -1,6 +1,6 @@
 -- A function as the code judges it. No rule speaks of this; contracts of the code do, and `function_again_lem` in `second_walk` says that it is the
 -- function of document 02.
-use Rattle.std.specs.Prelude.{ℕ, Bool, true, false}
+use Rattle.std.specs.Prelude.{ℕ, Bool, false}
 use mathlib.Core.List.{List, ◌++◌, flat_map}
 use Rattle.varint.specs.Outcome.{◌>>=◌, each, Judged}
 use Rattle.wire.specs.declared.Field.{Field}
@@ -13,11 +13,12 @@ use Rattle.rules.specs.Function.{function_input, function_output}
 use Rattle.messages.specs.Around.{inside}
 use Rattle.messages.specs.Again.{field_names, node_again, graph_again}
 use Rattle.signatures.specs.Signature.{signature_again}
+use Rattle.messages.specs.declared.contexts.Owner.TheVariants.{Function}
 use Rattle.messages.specs.declared.contexts.Surroundings.{Surroundings}
 
 -- What surrounds the body of a function.
 unfoldable pub within : (ir_version : ℕ) → (function : Field) → Surroundings
-within v f = record { main = false; version = v; nodes = Function-node; owner = f; function = true }
+within v f = record { main = false; version = v; nodes = Function-node; owner = Function f }
 
 module _ (model : Bytes) where
   -- The names in its body; `inner` has those of the graphs within.

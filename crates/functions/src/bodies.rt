@@ -16,9 +16,10 @@ use crate::outputs::outputs;
 use cycle::node;
 use index::Listing;
 use messages::Surroundings;
-use scope::{Index, Progress, Step, counting, list};
+use scope::{Index, Progress, counting, list};
 use values::numbers::{FUNCTION_NODE, NODE_NAME};
-use wire::{Field, Sought};
+use varint::Refusal;
+use wire::Field;
 
 // "nodes (29 within the function)": `left` depths are left for the graphs in them.
 fn nodes(
@@ -31,7 +32,7 @@ fn nodes(
     s: Surroundings,
     p: Progress,
     f: Field,
-) -> Step
+) -> Result<Progress, Refusal>
     requires enters { Enters model.now Function p f }
     requires minds { Minds model.now (imports_of model.now s) (attributes_of model.now s) ix top cells.old extra.old }
     requires countable { Countable p (flat_map (node_names model.now (names_in model.now left false)) (all_of Function-node (message model.now f))) }
@@ -46,22 +47,16 @@ fn nodes(
     let mut q = p;
     let mut l = Listing {
         base: top,
-        top: top,
+        top,
         whole: true,
     };
-    loop {
-        let sought = c.next_of(model, FUNCTION_NODE);
-        let Sought::Found(n, next) = sought else {
-            return Step::Went(q);
-        };
-        let step = node(model, cells, extra, ix, l, left, s, f, q, n);
-        let Step::Went(further) = step else {
-            return step;
-        };
+    while let Some((n, next)) = c.next_of(model, FUNCTION_NODE) {
+        let further = node(model, cells, extra, ix, l, left, s, f, q, n)?;
         l = list(model, extra, ix, l, n, NODE_NAME);
         q = further;
         c = next;
     }
+    Ok(q)
 }
 
 pub(crate) fn body(
@@ -74,7 +69,7 @@ pub(crate) fn body(
     s: Surroundings,
     p: Progress,
     f: Field,
-) -> Step
+) -> Result<Progress, Refusal>
     requires enters { Enters model.now Function p f }
     requires minds { Minds model.now (imports_of model.now s) (attributes_of model.now s) ix top cells.old extra.old }
     requires countable { Countable p (body_names model.now (names_in model.now left false) f) }
@@ -85,13 +80,7 @@ pub(crate) fn body(
     ensures kept { Keeps p.used cells.old cells.new }
     ensures memory { Minded model.now ix top cells.new extra.old extra.new }
 {
-    let bound = inputs(model, cells, extra, ix, p, f);
-    let Step::Went(q) = bound else {
-        return bound;
-    };
-    let ran = nodes(model, cells, extra, ix, top, left, s, q, f);
-    let Step::Went(u) = ran else {
-        return ran;
-    };
+    let q = inputs(model, cells, extra, ix, p, f)?;
+    let u = nodes(model, cells, extra, ix, top, left, s, q, f)?;
     counting(u, outputs(model, cells, extra, ix, u.used, f))
 }

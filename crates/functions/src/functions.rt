@@ -10,14 +10,22 @@ ghost use Rattle.signatures.specs.Signature.{signature_again, signature_says, de
 ghost use Rattle.functions.specs.Function.{function_again};
 
 use crate::bodies::body;
-use messages::Surroundings;
-use scope::{Index, Progress, Step};
-use signatures::{Signature, read_signature};
+use messages::{Owner, Surroundings};
+use scope::{Index, Progress};
+use signatures::{Declaration, read_signature};
 use values::numbers::FUNCTION_NODE;
+use varint::Refusal;
 use wire::Field;
 
 // What it says before its body, with its attributes and imports in the part of the extra cells that is for lists.
-fn head(model: &[u8], list: &[u8], extra: &mut [u32], ix: Index, twice: bool, f: Field) -> Signature
+fn head(
+    model: &[u8],
+    list: &[u8],
+    extra: &mut [u32],
+    ix: Index,
+    twice: bool,
+    f: Field,
+) -> Result<Declaration, Refusal>
     requires remembering { Remembering model.now ix extra.old }
     requires model_len_bound { length model.now < 2 ^ 32 }
     requires next_in_bounds { f.next ≤ length model.now }
@@ -41,7 +49,7 @@ pub fn function(
     twice: bool,
     p: Progress,
     f: Field,
-) -> Step
+) -> Result<Progress, Refusal>
     requires enters { Enters model.now Function p f }
     requires recalling { Recalling model.now ix cells.old extra.old }
     requires countable { Countable p (function_names model.now (names_in model.now left false) f) }
@@ -51,32 +59,27 @@ pub fn function(
     ensures lent { length extra.new ≡ length extra.old }
     ensures memory { Recalling model.now ix cells.new extra.new }
 {
-    match head(model, list, extra, ix, twice, f) {
-        Signature::Refused(r) => Step::Refused(r),
-        Signature::Declared(d) => {
-            let imports = d.imports;
-            let attributes = d.attributes;
-            let top = imports.listing.top;
-            let known = Index {
-                seed: ix.seed,
-                split: ix.split,
-                imports: imports,
-                attributes: attributes,
-            };
-            let around = Surroundings {
-                main: false,
-                version: version,
-                nodes: FUNCTION_NODE,
-                owner: f,
-                function: true,
-            };
-            let start = Progress {
-                used: 0,
-                nodes: p.nodes,
-                most: p.most,
-                odd: p.odd + d.odd,
-            };
-            body(model, cells, extra, known, top, left, around, start, f)
-        }
-    }
+    let d = head(model, list, extra, ix, twice, f)?;
+    let imports = d.imports;
+    let attributes = d.attributes;
+    let top = imports.listing.top;
+    let known = Index {
+        seed: ix.seed,
+        split: ix.split,
+        imports,
+        attributes,
+    };
+    let around = Surroundings {
+        main: false,
+        version,
+        nodes: FUNCTION_NODE,
+        owner: Owner::Function(f),
+    };
+    let start = Progress {
+        used: 0,
+        nodes: p.nodes,
+        most: p.most,
+        odd: p.odd + d.odd,
+    };
+    body(model, cells, extra, known, top, left, around, start, f)
 }

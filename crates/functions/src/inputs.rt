@@ -12,10 +12,11 @@ ghost use Rattle.scope.specs.Scope.{walk_in, step_says, grows, Countable, Direct
 ghost use Rattle.scope.specs.Recall.{Recalling, Recalled};
 ghost use Rattle.messages.specs.Again.{field_names};
 
-use scope::{Index, Progress, Step, define, with_odd};
+use scope::{Index, Progress, define, with_odd};
 use values::numbers::FUNCTION_INPUT;
-use values::{Ruling, Tally, test_name};
-use wire::{Field, Sought};
+use values::test_name;
+use varint::Refusal;
+use wire::Field;
 
 // "inputs (22, 21, 23, 40)"
 fn input(
@@ -25,7 +26,7 @@ fn input(
     ix: Index,
     p: Progress,
     f: Field,
-) -> Step
+) -> Result<Progress, Refusal>
     requires direct { Direct model.now f }
     requires countable { Countable p (field_names model.now f) }
     requires model_len_bound { length model.now < 2 ^ 32 }
@@ -35,10 +36,8 @@ fn input(
     ensures kept { Keeps p.used cells.old cells.new }
     ensures memory { Recalled model.now ix cells.new extra.old extra.new }
 {
-    match test_name(model, f, Ruling::NAME_EMPTY) {
-        Tally::Refused(r) => Step::Refused(r),
-        Tally::Counted(odd) => define(model, cells, extra, ix, with_odd(p, odd), f),
-    }
+    let odd = test_name(model, f, Refusal::NAME_EMPTY)?;
+    define(model, cells, extra, ix, with_odd(p, odd), f)
 }
 
 pub(crate) fn inputs(
@@ -48,7 +47,7 @@ pub(crate) fn inputs(
     ix: Index,
     p: Progress,
     f: Field,
-) -> Step
+) -> Result<Progress, Refusal>
     requires model_len_bound { length model.now < 2 ^ 32 }
     requires walked { Walked model.now Function f }
     requires countable { Countable p (flat_map (field_names model.now) (all_of Function-input (message model.now f))) }
@@ -60,16 +59,10 @@ pub(crate) fn inputs(
 {
     let mut c = f.contents();
     let mut q = p;
-    loop {
-        let sought = c.next_of(model, FUNCTION_INPUT);
-        let Sought::Found(name, next) = sought else {
-            return Step::Went(q);
-        };
-        let step = input(model, cells, extra, ix, q, name);
-        let Step::Went(further) = step else {
-            return step;
-        };
+    while let Some((name, next)) = c.next_of(model, FUNCTION_INPUT) {
+        let further = input(model, cells, extra, ix, q, name)?;
         q = further;
         c = next;
     }
+    Ok(q)
 }

@@ -11,22 +11,27 @@ ghost use Rattle.scope.specs.Recall.{Recalling};
 
 use scope::{Index, sees};
 use values::numbers::FUNCTION_OUTPUT;
-use values::{Ruling, Tally, test_name, uncounted};
-use wire::{Field, Sought};
+use values::test_name;
+use varint::{Refusal, refused};
+use wire::Field;
 
 // "outputs (22, 21, 35)"
-fn output(model: &[u8], cells: &[u32], extra: &[u32], ix: Index, used: usize, f: Field) -> Tally
+fn output(
+    model: &[u8],
+    cells: &[u32],
+    extra: &[u32],
+    ix: Index,
+    used: usize,
+    f: Field,
+) -> Result<u64, Refusal>
     requires { Recalling model.now ix cells.now extra.now }
     ensures { (w : Walk) → w.scope ≡ scope_in model.now cells.now used → tally_says w result ≡ function_output model.now w f }
 {
-    let tally = test_name(model, f, Ruling::NAME_EMPTY);
-    let Tally::Counted(odd) = tally else {
-        return tally;
-    };
+    let odd = test_name(model, f, Refusal::NAME_EMPTY)?;
     if sees(model, cells, extra, ix, used, f.text(model)) {
-        return Tally::Counted(odd);
+        return Ok(odd);
     }
-    uncounted(Ruling::OUTPUT_NOT_VISIBLE, f.place)
+    refused(Refusal::OUTPUT_NOT_VISIBLE, f.place)
 }
 
 pub(crate) fn outputs(
@@ -36,22 +41,16 @@ pub(crate) fn outputs(
     ix: Index,
     used: usize,
     f: Field,
-) -> Tally
+) -> Result<u64, Refusal>
     requires { Recalling model.now ix cells.now extra.now }
     ensures { (w : Walk) → w.scope ≡ scope_in model.now cells.now used → tally_says w result ≡ each (function_output model.now) w (all_of Function-output (message model.now f)) }
 {
     let mut c = f.contents();
     let mut odd = 0;
-    loop {
-        let sought = c.next_of(model, FUNCTION_OUTPUT);
-        let Sought::Found(name, next) = sought else {
-            return Tally::Counted(odd);
-        };
-        let tally = output(model, cells, extra, ix, used, name);
-        let Tally::Counted(more) = tally else {
-            return tally;
-        };
+    while let Some((name, next)) = c.next_of(model, FUNCTION_OUTPUT) {
+        let more = output(model, cells, extra, ix, used, name)?;
         odd += more;
         c = next;
     }
+    Ok(odd)
 }

@@ -1,4 +1,5 @@
 -- Each case of the check's answer; a range that fits, and one that does not; and what the name service shows there.
+use Rattle.std.specs.Prelude.{Err, Ok}
 use Prim.Native.Nat.{ℕ, ◌+◌, ◌≤◌, ◌<◌}
 use native.Mathlib.Omega.{arith}
 use mathlib.Core.Path.{◌≡◌, refl, sym, ap}
@@ -17,18 +18,18 @@ use Rattle.rules.specs.Demands.{RefusedProperly}
 use Rattle.rules.proofs.Proper.{refused_properly}
 use Rattle.gate.specs.Meaning.{meaning}
 use Rattle.gate.specs.Shown.{shown}
-use Rattle.gate.specs.declared.checks.Answer.{Answer}
-use Rattle.gate.specs.declared.checks.Answer.TheVariants as answer
+use Rattle.gate.specs.declared.checks.Accepted.{Accepted}
+use Rattle.varint.specs.Answers.{Answer}
 use Rattle.gate_c.specs.declared.GatePart.{GatePart}
 use Rattle.gate_c.specs.Exports.{outcome, shown_at}
 
-module _ {o : Judged Counts} {r : Answer} (checked : meaning r ≡ o) where
-  pub outcome_accepted : {nodes names odd : ℕ} → r ≡ answer.Accepted nodes names odd
-      → record { refusal = 0; place = 0; nodes = nodes; names = names; first = 0; odd = odd } ≡ outcome o
+module _ {o : Judged Counts} {r : Answer Accepted} (checked : meaning r ≡ o) where
+  pub outcome_accepted : {x : Accepted} → r ≡ Ok x
+      → record { refusal = 0; place = 0; nodes = x.nodes; names = x.names; first = 0; odd = x.odd } ≡ outcome o
   unfolding outcome meaning
   outcome_accepted e = ap outcome (says meaning checked e)
 
-  pub outcome_refused : {q : Refusal} → r ≡ answer.Refused q
+  pub outcome_refused : {q : Refusal} → r ≡ Err q
       → record { refusal = q.number; place = q.place; nodes = 0; names = 0; first = q.first; odd = 0 } ≡ outcome o
   unfolding outcome meaning
   outcome_refused e = ap outcome (says meaning checked e)

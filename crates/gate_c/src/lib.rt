@@ -6,7 +6,8 @@ ghost use Rattle.rules.specs.Verdict.{verdict};
 ghost use Rattle.gate.specs.Meaning.{meaning, indexed};
 ghost use Rattle.gate_c.specs.Exports.{outcome, shown_at};
 
-use gate::{Answer, check, check_indexed};
+use gate::{Accepted, check, check_indexed};
+use varint::Refusal;
 
 // An answer with no cases: a refusal of 0 is an acceptance, and what does not apply is 0.
 #[repr(C)]
@@ -28,26 +29,28 @@ pub struct GatePart {
     pub length: u64,
 }
 
-fn in_numbers(answer: Answer) -> GateAnswer
-    ensures { result ≡ outcome (meaning answer) }
-{
-    match answer {
-        Answer::Accepted { nodes, names, odd } => GateAnswer {
-            refusal: 0,
-            place: 0,
-            nodes: nodes,
-            names: names as u64,
-            first: 0,
-            odd: odd,
-        },
-        Answer::Refused(r) => GateAnswer {
-            refusal: r.number as u64,
-            place: r.place as u64,
-            nodes: 0,
-            names: 0,
-            first: r.first as u64,
-            odd: 0,
-        },
+impl From<Result<Accepted, Refusal>> for GateAnswer {
+    ghost from_gives = { λ answer r. r ≡ outcome (meaning answer) };
+
+    fn from(answer: Result<Accepted, Refusal>) -> GateAnswer {
+        match answer {
+            Ok(a) => GateAnswer {
+                refusal: 0,
+                place: 0,
+                nodes: a.nodes,
+                names: a.names as u64,
+                first: 0,
+                odd: a.odd,
+            },
+            Err(r) => GateAnswer {
+                refusal: r.number as u64,
+                place: r.place as u64,
+                nodes: 0,
+                names: 0,
+                first: r.first as u64,
+                odd: 0,
+            },
+        }
     }
 }
 
@@ -57,7 +60,7 @@ pub extern "C" fn onnx_gate_check(model: &[u8], operators: &[u8], cells: &mut [u
     ensures answer { result ≡ outcome (verdict model.now operators.now (length cells.old)) }
     ensures cleared { cells.new ≡ replicate (length cells.old) 0 }
 {
-    in_numbers(check(model, operators, cells))
+    GateAnswer::from(check(model, operators, cells))
 }
 
 // The check with extra cells, which make it fast: 65 where they are fewer than four times the others, else the same answer, for every seed.
@@ -73,7 +76,7 @@ pub extern "C" fn onnx_gate_check_indexed(
     ensures cleared { cells.new ≡ replicate (length cells.old) 0 }
     ensures extras { extra.new ≡ replicate (length extra.old) 0 }
 {
-    in_numbers(check_indexed(model, operators, cells, extra, seed))
+    GateAnswer::from(check_indexed(model, operators, cells, extra, seed))
 }
 
 // The name service. No reference crosses: C gets where the part lies in the bytes that it has. Sizes are compared with what is
@@ -96,7 +99,7 @@ pub extern "C" fn onnx_gate_show_name(model: &[u8], start: u64, size: u64) -> Ga
         };
     }
     GatePart {
-        start: start,
+        start,
         length: size,
     }
 }

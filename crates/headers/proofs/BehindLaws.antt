@@ -1,17 +1,16 @@
 -- A loop over the fields of a list that lists their names, after those of `front`: `pre` is what it has behind it.
+use Rattle.std.specs.Prelude.{None, Some}
 use Prim.Native.Nat.{ℕ}
 use mathlib.Core.Path.{◌≡◌, refl, sym, ap, subst, ◌∙◌}
 use mathlib.Core.Bool.{Bool, ◌||◌}
 use mathlib.Core.List.{List, [], ◌∷◌, ◌++◌, map, append_assoc, append-nil}
 use Rattle.wire.specs.declared.Field.{Field}
 use Rattle.wire.specs.declared.Cursor.{Cursor}
-use Rattle.wire.specs.declared.Sought.{Sought}
-use Rattle.wire.specs.declared.Sought.TheVariants as sought
 use Rattle.varint.specs.Bytes.{Bytes, same, member}
 use Rattle.varint.proofs.Lists.{or_swap}
 use Rattle.wire.specs.Order.{Ordered}
 use Rattle.wire.specs.Message.{all_of, message}
-use Rattle.wire.specs.Answers.{contents_of, sought_says, sought_in}
+use Rattle.wire.specs.Answers.{contents_of, sought_says, sought_in, Sought}
 use Rattle.varint.proofs.Answers.{says}
 use Rattle.wire.proofs.Fields.{all_of_ordered}
 use Rattle.wire.proofs.Along.{all_from, Onward, all_none, all_some}
@@ -40,14 +39,14 @@ module _ {model : Bytes} {seed number : ℕ} {front : List Bytes} {named : Field
 
   module _ {a : Sought} (read : sought_says a ≡ sought_in model number c.end c.at) where
     -- all of them
-    pub behind_done : a ≡ sought.Missing → Listed model seed lists l (front ++ map named (all_of number (message model m)))
+    pub behind_done : a ≡ None → Listed model seed lists l (front ++ map named (all_of number (message model m)))
     unfolding sought_says
     behind_done e =
         let none = all_none model number m.next c.at (says sought_says (rw q.ends at read) e) in
         subst (λ (fs : List Field). Listed model seed lists l (front ++ map named fs))
         (sym (q.split ∙ ap (λ (fs : List Field). q.pre ++ fs) none ∙ append-nil q.pre)) q.listed
 
-    module _ {f : Field} {next : Cursor} (e : a ≡ sought.Found f next) where
+    module _ {f : Field} {next : Cursor} (e : a ≡ Some (f, next)) where
       gone : Onward model number m.next c.at f next
       unfolding sought_says
       gone = all_some model number m.next c.at (says sought_says (rw q.ends at read) e)

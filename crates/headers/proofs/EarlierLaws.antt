@@ -1,22 +1,21 @@
 -- The search among names that stood earlier, field by field.
+use Rattle.std.specs.Prelude.{None, Some, MatchBool}
 use Prim.Native.Nat.{ℕ, ◌-◌, ◌≤◌, ◌<◌}
 use native.Mathlib.Omega.{arith}
-use mathlib.Core.Path.{◌≡◌, refl, sym, ap, ◌∙◌}
+use mathlib.Core.Path.{◌≡◌, refl, sym, ap, subst, ◌∙◌}
 use mathlib.Core.Bool.{Bool, true, false, ◌||◌}
 use mathlib.Core.List.{List, [], ◌∷◌, ◌++◌, map}
 use borrow.Author.Tests.{le-leb, lt-leb}
 use Rattle.wire.specs.declared.Field.{Field}
 use Rattle.wire.specs.declared.Cursor.{Cursor}
-use Rattle.wire.specs.declared.Sought.{Sought}
-use Rattle.wire.specs.declared.Sought.TheVariants as sought
 use Rattle.varint.specs.Bytes.{Bytes, same, member}
 use Rattle.wire.specs.Order.{Ordered}
-use Rattle.wire.specs.Message.{all_of, text, bytes_of, message}
-use Rattle.wire.specs.Answers.{contents_of, sought_says, sought_in}
+use Rattle.wire.specs.Message.{all_of, message}
+use Rattle.wire.specs.Answers.{contents_of, sought_says, sought_in, Sought}
 use Rattle.varint.proofs.Answers.{says}
 use Rattle.varint.proofs.Lists.{or_swap}
 use Rattle.wire.proofs.Along.{all_from, Onward, all_none, all_some}
-use Rattle.headers.specs.Earlier.{before, names_in, texts_in}
+use Rattle.headers.specs.Earlier.{before, before_from, AnySays}
 
 -- ---- fields before a place
 
@@ -62,61 +61,67 @@ names_last named x (g ∷ pre) f =
     ap (λ (b : Bool). same x (named g) || b) (names_last named x pre f)
     ∙ or_swap (same x (named g)) (same x (named f)) (member x (map named pre))
 
--- ---- reading them again: `named` gives the name in a field, and the whole search answers `o`
-
-pub record Rereading (model : Bytes) (number end : ℕ) (named : Field → Bytes) (place : ℕ) (text : Bytes) (o : Bool) (c : Cursor) : Type 0 where
-  pub ends : c.end ≡ end
-  pub rest : member text (map named (before place (all_from model number end c.at))) ≡ o
-
--- the names in a message's fields
-pub reread_all : (model : Bytes) (number name place : ℕ) (text : Bytes) (m : Field) {c : Cursor}
-    → c ≡ contents_of m
-    → member text (map (λ f. bytes_of model name (message model f)) (before place (all_from model number c.end c.at)))
-    ≡ member text (names_in model name (before place (all_of number (message model m))))
-unfolding all_from all_of message names_in contents_of
-reread_all model number name place text m e = rw e refl
-
-pub reread_texts : (model : Bytes) (number place : ℕ) (name : Bytes) (m : Field) {c : Cursor}
-    → c ≡ contents_of m
-    → member name (map (text model) (before place (all_from model number c.end c.at)))
-    ≡ member name (texts_in model (before place (all_of number (message model m))))
-unfolding all_from all_of message texts_in contents_of
-reread_texts model number place name m e = rw e refl
-
 -- nothing stands before the first place
 pub before_none : (lo hi : ℕ) (l : List Field) → Ordered lo hi l → before lo l ≡ []
 unfolding before
 before_none lo hi [] o = refl
 before_none lo hi (f ∷ l) o = before_past lo f l o.0
 
-module _ {model : Bytes} {number end : ℕ} {named : Field → Bytes} {place : ℕ} {text : Bytes} {o : Bool} {c : Cursor}
-    (q : Rereading model number end named place text o c) {r : Sought} (read : sought_says r ≡ sought_in model number c.end c.at) where
-  pub reread_done : r ≡ sought.Missing → false ≡ o
-  unfolding sought_says before member
-  reread_done e = ap (λ (l : List Field). member text (map named (before place l))) (sym (all_none model number end c.at (says sought_says (rw q.ends at read) e))) ∙ q.rest
+-- ---- a search among them: `Says f b` is what the test says of `f`, and the whole search answers `o`
 
-  module _ {f : Field} {next : Cursor} (e : r ≡ sought.Found f next) where
+pub record Searching (model : Bytes) (number end place : ℕ) (Says : Field → Bool → Type 0) (Whole : Bool → Type 0) (c : Cursor) : Type 0 where
+  pub ends : c.end ≡ end
+  pub rest : (r : Bool) → AnySays Says (before place (all_from model number end c.at)) r → Whole r
+
+pub search_start : (model : Bytes) (number place : ℕ) (Says : Field → Bool → Type 0) (c : Cursor)
+    → Searching model number c.end place Says (AnySays Says (before_from model number place c)) c
+unfolding all_from before_from
+search_start model number place Says c = record { ends = refl; rest = λ r k. k }
+
+module _ {model : Bytes} {number end place : ℕ} {Says : Field → Bool → Type 0} {Whole : Bool → Type 0} {c : Cursor}
+    (q : Searching model number end place Says Whole c) {r : Sought} (read : sought_says r ≡ sought_in model number c.end c.at) where
+  pub search_done : r ≡ None → Whole false
+  unfolding sought_says before
+  search_done e = q.rest false (rw (all_none model number end c.at (says sought_says (rw q.ends at read) e)) refl)
+
+  module _ {f : Field} {next : Cursor} (e : r ≡ Some (f, next)) where
     went : Onward model number end c.at f next
     unfolding sought_says
     went = all_some model number end c.at (says sought_says (rw q.ends at read) e)
 
-    pub reread_falls : end - next.at < end - c.at
-    reread_falls = let far = went.onward in let near = went.inside in omega arith
+    pub search_falls : end - next.at < end - c.at
+    search_falls = let far = went.onward in let near = went.inside in omega arith
 
-    parted : {l : List Field} → before place (f ∷ all_from model number end next.at) ≡ l → member text (map named l) ≡ o
-    parted k = ap (λ (m : List Field). member text (map named m)) (sym (ap (before place) went.list ∙ k)) ∙ q.rest
+    parted : {l : List Field} → before place (f ∷ all_from model number end next.at) ≡ l → {b : Bool} → AnySays Says l b → Whole b
+    parted k {b} d = q.rest b (subst (λ (m : List Field). AnySays Says m b) (sym (ap (before place) went.list ∙ k)) d)
 
-    pub reread_past : place ≤ f.place → false ≡ o
-    unfolding member
-    reread_past h = parted (before_past place f _ h)
+    pub search_past : place ≤ f.place → Whole false
+    search_past h = parted (before_past place f _ h) refl
 
-    module _ (h : f.place < place) {b : Bool} (i : b ≡ same text (named f)) where
-      here : (b || member text (map named (before place (all_from model number end next.at)))) ≡ o
-      unfolding member
-      here = ap (λ (y : Bool). y || member text (map named (before place (all_from model number end next.at)))) i ∙ parted (before_here place f _ h)
+    module _ (h : f.place < place) {b : Bool} (i : Says f b) where
+      pub search_here : b ≡ true → Whole true
+      search_here k = parted (before_here place f _ h) (true, subst (Says f) k i, refl)
 
-      pub reread_here : b ≡ true → true ≡ o
-      reread_here k = rw k at here
+      pub search_next : b ≡ false → Searching model number end place Says Whole next
+      search_next k = record { ends = went.ends; rest = λ r d. parted (before_here place f _ h) (false, subst (Says f) k i, d) }
 
-      pub reread_next : b ≡ false → Rereading model number end named place text o next
-      reread_next k = record { ends = went.ends; rest = rw k at here }
+-- a test that says `test`: the answer is that of a list function `Found` which tells the same
+pub any_told : {Says : Field → Bool → Type 0} (test : Field → Bool) (Found : List Field → Bool) → Found [] ≡ false
+    → ((f : Field) (l : List Field) → Found (f ∷ l) ≡ (test f || Found l)) → ((f : Field) (b : Bool) → Says f b → b ≡ test f)
+    → (l : List Field) {r : Bool} → AnySays Says l r → r ≡ Found l
+any_told test Found none more h [] d = d ∙ sym none
+any_told {Says} test Found none more h (f ∷ l) {r} d = go d.0 (h f d.0 d.1) (any_told test Found none more h l) d.2 ∙ sym (more f l)
+  where
+    go : (b : Bool) → b ≡ test f → (AnySays Says l r → r ≡ Found l) → MatchBool b (r ≡ true) (AnySays Says l r) → r ≡ (test f || Found l)
+    go true e later k = k ∙ ap (λ (t : Bool). t || Found l) e
+    go false e later k = later k ∙ ap (λ (t : Bool). t || Found l) e
+
+-- one that looks for a name, among the fields of a message
+pub any_named : {Says : Field → Bool → Type 0} (named : Field → Bytes) (x : Bytes) → ((f : Field) (b : Bool) → Says f b → b ≡ same x (named f))
+    → (model : Bytes) (number place : ℕ) (m : Field) {c : Cursor} → c ≡ contents_of m
+    → {r : Bool} → AnySays Says (before_from model number place c) r
+    → r ≡ member x (map named (before place (all_of number (message model m))))
+unfolding before_from all_of message contents_of member
+any_named {Says} named x h model number place m {c} e {r} d =
+    any_told (λ f. same x (named f)) (λ l. member x (map named l)) refl (λ f l. refl) h (before place (all_of number (message model m)))
+    (subst (λ (y : Cursor). AnySays Says (before_from model number place y) r) e d)

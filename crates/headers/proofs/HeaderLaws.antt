@@ -1,9 +1,10 @@
 -- The rules of the header in the order of the code's tests.
+use Rattle.std.specs.Prelude.{Err, Ok}
+use Rattle.varint.specs.Answers.{Answer, outcome_of, refusal}
 use Prim.Native.Nat.{ℕ, ◌≤◌, ◌<◌}
 use mathlib.Core.Path.{◌≡◌, refl, sym, ap, subst, ◌∙◌}
 use mathlib.Core.Bool.{Bool, true, false, not}
 use mathlib.Core.List.{List, []}
-use mathlib.Core.Option.{Option, none, some}
 use lib.Dec.{leb}
 use borrow.Author.Tests.{le-leb, lt-leb}
 use Rattle.varint.specs.Outcome.{pass, ◌>>=◌, ◌>>◌, each, Judged, Rule, refused, refuse◌at:◌when:◌}
@@ -22,13 +23,8 @@ use Rattle.schema.specs.Answers.{silent}
 use Rattle.rules.specs.Import.{opset_import}
 use Rattle.rules.specs.Header.{header}
 use Rattle.headers.specs.Imports.{imports_in}
-use Rattle.values.specs.Answers.{ruling_says}
-use Rattle.headers.specs.Imported.{Outlined, ruling_of, headed, holds}
+use Rattle.headers.specs.Imported.{Outlined, ruling_of, holds}
 use Rattle.headers.specs.declared.imports.Imports.{Imports}
-use Rattle.headers.specs.declared.imports.Heading.{Heading}
-use Rattle.headers.specs.declared.imports.Heading.TheVariants as heading
-use Rattle.values.specs.declared.Ruling.{Ruling}
-use Rattle.values.specs.declared.Ruling.TheVariants as ruling
 use Rattle.headers.proofs.ImportLaws.{All, imports_agree}
 
 pub version_below : (n : ℕ) → n < 3 → false ≡ within 3 11 n
@@ -53,50 +49,37 @@ outlined model em {o} k = record {
 
 -- ---- the answer of the header, as a ruling
 
-module _ (i : Imports) {r : Heading} (q : Ruling) (e : r ≡ headed i q) where
-  pub headed_same : ruling_of r ≡ q
-  unfolding ruling_of headed
-  headed_same = ap ruling_of e ∙ go q
-    where
-      go : (q : Ruling) → ruling_of (headed i q) ≡ q
-      go ruling.Kept = refl
-      go (ruling.Refused x) = refl
+-- of a refusal nothing is left in the lists
+pub refused_holds : {r : Answer Imports} {x : Refusal} → r ≡ Err x → (model : Bytes) (n : ℕ) (m : Field) (seed top : ℕ) (lists : List ℕ) → holds model n m seed top lists r
+unfolding holds
+refused_holds e model n m seed top lists = rw e tt
 
-  pub headed_holds : {x : Refusal} → q ≡ ruling.Refused x → (model : Bytes) (n : ℕ) (m : Field) (seed top : ℕ) (lists : List ℕ) → holds model n m seed top lists r
-  unfolding holds headed
-  headed_holds k model n m seed top lists = rw (e ∙ ap (headed i) k) tt
+pub refused_ruling : {r : Answer Imports} {n p : ℕ} → r ≡ Err (refusal n p) → outcome_of (ruling_of r) ≡ refused n p
+unfolding outcome_of ruling_of
+refused_ruling e = rw e refl
 
-module _ {h : Heading} where
-  pub refused_heading : {x : Refusal} → h ≡ heading.Refused x → ruling_of h ≡ ruling.Refused x
+module _ {h : Answer Imports} where
+  pub refused_heading : {x : Refusal} → h ≡ Err x → ruling_of h ≡ Err x
   unfolding ruling_of
   refused_heading e = ap ruling_of e
 
-  pub imported_heading : {i : Imports} → h ≡ heading.Imported i → ruling_of h ≡ ruling.Kept
+  pub imported_heading : {i : Imports} → h ≡ Ok i → ruling_of h ≡ (Ok tt)
   unfolding ruling_of
   imported_heading e = ap ruling_of e
 
 -- ---- the header: m is the whole model, n its version, b whether it is one of those that are judged
 
-module _ {o : Option Field} where
-  pub has_none : none ≡ o → false ≡ present o
-  unfolding present
-  has_none e = ap present e
-
-  pub has_some : {f : Field} → some f ≡ o → true ≡ present o
-  unfolding present
-  has_some e = ap present e
-
 module _ (model list : Bytes) {m : Field} (em : m ≡ whole model) {n : ℕ} (en : n ≡ number_of Model-ir_version (message model m)) {b : Bool} (eb : b ≡ within 3 11 n) where
-  abbrev Answer : Rule
-  Answer = silent (header model list (message model (whole model)))
+  abbrev Ruled : Rule
+  Ruled = silent (header model list (message model (whole model)))
 
-  answers : {o : Judged (List Bytes)} → header model list (message model m) ≡ o → silent o ≡ Answer
+  answers : {o : Judged (List Bytes)} → header model list (message model m) ≡ o → silent o ≡ Ruled
   answers e = ap silent (sym e) ∙ ap (λ (f : Field). silent (header model list (message model f))) em
 
   version : {t : Bool} → b ≡ t → not (within 3 11 (number_of Model-ir_version (message model m))) ≡ not t
   version k = ap (λ (v : ℕ). not (within 3 11 v)) (sym en) ∙ ap not (sym eb ∙ k)
 
-  pub header_version : b ≡ false → {p : ℕ} → p ≡ place_of Model-ir_version (message model m) → refused 10 p ≡ Answer
+  pub header_version : b ≡ false → {p : ℕ} → p ≡ place_of Model-ir_version (message model m) → refused 10 p ≡ Ruled
   unfolding header silent ◌>>=◌
   header_version k e = ap (λ (q : ℕ). refused 10 q) e ∙ answers (when_broken 10 (place_of Model-ir_version (message model m)) _ (version k))
 
@@ -111,7 +94,7 @@ module _ (model list : Bytes) {m : Field} (em : m ≡ whole model) {n : ℕ} (en
     unfolding header message
     graphed = when_kept 10 _ _ (version k)
 
-    pub header_graph : g ≡ false → refused 11 m.place ≡ Answer
+    pub header_graph : g ≡ false → refused 11 m.place ≡ Ruled
     unfolding silent ◌>>=◌
     header_graph l = answers (graphed ∙ when_broken 11 m.place _ (ap not (sym eg ∙ l)))
 
@@ -123,7 +106,7 @@ module _ (model list : Bytes) {m : Field} (em : m ≡ whole model) {n : ℕ} (en
       importing : header model list (message model m) ≡ (refuse 12 at: m.place when: is_empty (all_of Model-opset_import (message model m)) >> Each)
       importing = graphed ∙ when_kept 11 _ _ (ap not (sym eg ∙ l))
 
-      pub header_import : i ≡ false → refused 12 m.place ≡ Answer
+      pub header_import : i ≡ false → refused 12 m.place ≡ Ruled
       unfolding silent ◌>>=◌
       header_import e = answers (importing ∙ when_broken 12 m.place _ (imported e))
 
@@ -131,7 +114,7 @@ module _ (model list : Bytes) {m : Field} (em : m ≡ whole model) {n : ℕ} (en
       last j = importing ∙ when_kept 12 _ _ (imported j)
 
       -- r is the ruling on the imports
-      pub header_imported : i ≡ true → (r : Ruling) → ruling_says r ≡ silent Each → ruling_says r ≡ Answer
+      pub header_imported : i ≡ true → (r : Answer (Unit {0})) → outcome_of r ≡ silent Each → outcome_of r ≡ Ruled
       header_imported j r ruled = ruled ∙ answers (last j)
 
 -- the domains that a header passes on are those that the model imports

@@ -1,4 +1,6 @@
 -- Imports, one after the other: those so far, and the loop over them.
+use Rattle.std.specs.Prelude.{Err, None, Ok, Some}
+use Rattle.varint.specs.Answers.{Answer, outcome_of}
 use Prim.Native.Nat.{ℕ, ◌-◌, ◌≤◌, ◌<◌}
 use native.Mathlib.Omega.{arith}
 use mathlib.Core.Path.{◌≡◌, refl, sym, ap, subst, ◌∙◌}
@@ -8,12 +10,10 @@ use Rattle.varint.specs.Outcome.{pass, ◌>>=◌, ◌>>◌, each, Judged, refuse
 use Rattle.varint.specs.Bytes.{Bytes, same, member}
 use Rattle.wire.specs.Message.{all_of, number_of, bytes_of, message}
 use Rattle.wire.specs.Order.{Ordered}
-use Rattle.wire.specs.Answers.{contents_of, sought_says, sought_in}
+use Rattle.wire.specs.Answers.{sought_says, sought_in, Sought}
 use Rattle.varint.specs.declared.Refusal.{Refusal}
 use Rattle.wire.specs.declared.Field.{Field}
 use Rattle.wire.specs.declared.Cursor.{Cursor}
-use Rattle.wire.specs.declared.Sought.{Sought}
-use Rattle.wire.specs.declared.Sought.TheVariants as sought
 use Rattle.varint.proofs.Passing.{pass_same, passed_bind, passed_seq}
 use Rattle.wire.proofs.Fields.{all_of_ordered}
 use Rattle.varint.proofs.Lists.{or_shift, or_false}
@@ -33,9 +33,6 @@ use Rattle.index.specs.Listing.{Held}
 use Rattle.index.proofs.ListingLaws.{held_all, held_fewer, held_then, listed_begin}
 use Rattle.headers.specs.Imported.{Imported, ImportAdded}
 use Rattle.headers.specs.declared.imports.Imports.{Imports}
-use Rattle.values.specs.Answers.{ruling_says}
-use Rattle.values.specs.declared.Ruling.{Ruling}
-use Rattle.values.specs.declared.Ruling.TheVariants as ruling
 use Rattle.headers.proofs.Silent.{silent_fails, silent_passes}
 use Rattle.values.proofs.RulingLaws.{ruled_kept, ruled_refused}
 use Rattle.rules.proofs.Matching.{each_append}
@@ -65,30 +62,17 @@ module _ (model : Bytes) (number : ℕ) (m : Field) where
 
 module _ (model : Bytes) (number : ℕ) (m : Field) (c : Cursor) (ends : c.end ≡ m.next) {a : Sought}
     (read : sought_says a ≡ sought_in model number c.end c.at) where
-  none_left : a ≡ sought.Missing → From model number m c.at ≡ []
+  none_left : a ≡ None → From model number m c.at ≡ []
   unfolding sought_says
   none_left e = all_none model number m.next c.at (says sought_says (rw ends at read) e)
 
-  module _ {f : Field} {next : Cursor} (e : a ≡ sought.Found f next) where
+  module _ {f : Field} {next : Cursor} (e : a ≡ Some (f, next)) where
     gone : Onward model number m.next c.at f next
     unfolding sought_says
     gone = all_some model number m.next c.at (says sought_says (rw ends at read) e)
 
     pub import_falls : m.next - next.at < m.next - c.at
     import_falls = let far = gone.onward in let near = gone.inside in omega arith
-
--- ---- reading them again: whether x is imported before a place
-
-pub imports_again : (model : Bytes) (number place : ℕ) (x : Bytes) (m : Field) {c : Cursor} → c ≡ contents_of m
-    → member x (map (import_of model) (before place (all_from model number c.end c.at))) ≡ member x (imports_before model number m place)
-unfolding imports_before contents_of all_from all_of message
-imports_again model number place x m e = rw e refl
-
-pub same_import : (model x : Bytes) (f : Field) {y : Bytes} → y ≡ bytes_of model OperatorSetId-domain (message model f) → {b : Bool}
-    → b ≡ same x (domain y)
-    → b ≡ same x (import_of model f)
-unfolding import_of
-same_import model x f e k = k ∙ ap (λ (z : Bytes). same x (domain z)) e
 
 -- ---- one import: y is the domain that it names, s whether that is imported
 
@@ -185,11 +169,11 @@ module _ {model list : Bytes} {number : ℕ} {m : Field} {c : Cursor} (q : Impor
 
 module _ {model list : Bytes} {number : ℕ} {m : Field} {c : Cursor} (q : Importing model list number m c) {a : Sought}
     (read : sought_says a ≡ sought_in model number c.end c.at) where
-  pub importing_end : a ≡ sought.Missing → pass tt ≡ silent (each (opset_import model list) [] (All model number m))
+  pub importing_end : a ≡ None → pass tt ≡ silent (each (opset_import model list) [] (All model number m))
   unfolding silent each ◌>>=◌
   importing_end e = sym (ap silent (left q ∙ ap (each (opset_import model list) q.imports) (none_left model number m c q.ends read e)))
 
-  module _ {f : Field} {next : Cursor} (e : a ≡ sought.Found f next) where
+  module _ {f : Field} {next : Cursor} (e : a ≡ Some (f, next)) where
     here : All model number m ≡ q.pre ++ (f ∷ From model number m next.at)
     here = q.split ∙ ap (λ (l : List Field). q.pre ++ l) (gone model number m c q.ends read e).list
 
@@ -197,15 +181,15 @@ module _ {model list : Bytes} {number : ℕ} {m : Field} {c : Cursor} (q : Impor
     seen = ap (before f.place) here ∙ before_split m.start m.next q.pre f (From model number m next.at) (subst (Ordered m.start m.next) here (all_ordered model number m))
 
     -- r is the ruling on this import
-    module _ (r : Ruling) (ruled : ruling_says r ≡ silent (opset_import model list (imports_before model number m f.place) f)) where
-      agreed : ruling_says r ≡ silent (opset_import model list q.imports f)
+    module _ (r : Answer (Unit {0})) (ruled : outcome_of r ≡ silent (opset_import model list (imports_before model number m f.place) f)) where
+      agreed : outcome_of r ≡ silent (opset_import model list q.imports f)
       unfolding imports_before
       agreed =
           ruled
           ∙ ap (λ (l : List Field). silent (opset_import model list (map (import_of model) l) f)) seen
           ∙ sym (opset_agrees model list q.imports (map (import_of model) q.pre) f (imports_agree model list q.pre q.imports q.past))
 
-      pub importing_stops : {x : Refusal} → r ≡ ruling.Refused x → ruling_says r ≡ silent (each (opset_import model list) [] (All model number m))
+      pub importing_stops : {x : Refusal} → r ≡ Err x → outcome_of r ≡ silent (each (opset_import model list) [] (All model number m))
       unfolding silent each ◌>>=◌
       importing_stops {x} k =
           ruled
@@ -214,7 +198,7 @@ module _ {model list : Bytes} {number : ℕ} {m : Field} {c : Cursor} (q : Impor
           (λ (o : Judged (List Bytes)). o >>= λ t. each (opset_import model list) t (From model number m next.at))
           (silent_fails (opset_import model list q.imports f) (ruled_refused agreed k))))
 
-      pub importing_goes : r ≡ ruling.Kept → Importing model list number m next
+      pub importing_goes : r ≡ (Ok tt) → Importing model list number m next
       unfolding each ◌>>=◌
       importing_goes k =
           let p = silent_passes (opset_import model list q.imports f) (ruled_kept agreed k) in
@@ -250,7 +234,7 @@ keeping_start model list number m seed top begins ix h = record {
 
 module _ {model list : Bytes} {number : ℕ} {m : Field} {seed top : ℕ} {first lists : List ℕ} {i : Imports} {c : Cursor}
     (q : Keeping model list number m seed top first lists i c) {a : Sought} (read : sought_says a ≡ sought_in model number c.end c.at) where
-  pub keeping_end : a ≡ sought.Missing → Imported model seed lists i (imports_in model number m)
+  pub keeping_end : a ≡ None → Imported model seed lists i (imports_in model number m)
   unfolding imports_in
   keeping_end e =
       let all : q.importing.pre ≡ All model number m = sym (q.importing.split
@@ -258,12 +242,12 @@ module _ {model list : Bytes} {number : ℕ} {m : Field} {seed top : ℕ} {first
       ∙ append-nil q.importing.pre) in
       subst (λ (l : List Field). Imported model seed lists i (map (import_of model) l)) all q.imported
 
-  module _ {f : Field} {next : Cursor} (e : a ≡ sought.Found f next) where
+  module _ {f : Field} {next : Cursor} (e : a ≡ Some (f, next)) where
     pub keeping_before : Imported model seed lists i (imports_before model number m f.place)
     unfolding imports_before
     keeping_before = subst (λ (l : List Field). Imported model seed lists i (map (import_of model) l)) (sym (seen q.importing read e)) q.imported
 
-    pub keeping_goes : (r : Ruling) → ruling_says r ≡ silent (opset_import model list (imports_before model number m f.place) f) → r ≡ ruling.Kept
+    pub keeping_goes : (r : Answer (Unit {0})) → outcome_of r ≡ silent (opset_import model list (imports_before model number m f.place) f) → r ≡ (Ok tt)
         → {later : List ℕ} {more : Imports} → ImportAdded model seed i f lists later more
         → Keeping model list number m seed top first later more next
     unfolding importing_goes

@@ -1,5 +1,6 @@
 -- What is kept of the imports, and what the header answers with it. No rule speaks of this; contracts of the code do.
-use Rattle.std.specs.Prelude.{ℕ, ◌≤◌, ◌≡◌, ◌||◌, List, []}
+use Rattle.varint.specs.Answers.{Answer}
+use Rattle.std.specs.Prelude.{ℕ, ◌≤◌, ◌≡◌, ◌||◌, List, [], Err, Ok}
 use Rattle.wire.specs.declared.Field.{Field}
 use Rattle.varint.specs.Bytes.{Bytes, same, member}
 use Rattle.wire.specs.Message.{whole}
@@ -8,11 +9,7 @@ use Rattle.wire.specs.declared.outlines.Outline.{Outline}
 use Rattle.schema.specs.Numbers.{Model-ir_version, Model-graph, Model-opset_import, Model-functions}
 use Rattle.index.specs.Listing.{Listed, Held}
 use Rattle.headers.specs.Imports.{import_of, imports_in}
-use Rattle.values.specs.declared.Ruling.{Ruling}
-use Rattle.values.specs.declared.Ruling.TheVariants as ruling
 use Rattle.headers.specs.declared.imports.Imports.{Imports}
-use Rattle.headers.specs.declared.imports.Heading.{Heading}
-use Rattle.headers.specs.declared.imports.Heading.TheVariants as heading
 
 -- These domains are imported: those with a name are listed, and of the one that has none it is known whether it is among them.
 pub record Imported (model : Bytes) (seed : ℕ) (lists : List ℕ) (i : Imports) (domains : List Bytes) : Type 0 where
@@ -27,13 +24,9 @@ pub record ImportAdded (model : Bytes) (seed : ℕ) (i : Imports) (f : Field) (b
       → ((x : Bytes) → member x later ≡ (same x (import_of model f) || member x domains))
       → Imported model seed after r later
 
-unfoldable pub ruling_of : Heading → Ruling
-ruling_of (heading.Imported i) = ruling.Kept
-ruling_of (heading.Refused r) = ruling.Refused r
-
-unfoldable pub headed : Imports → Ruling → Heading
-headed i ruling.Kept = heading.Imported i
-headed i (ruling.Refused r) = heading.Refused r
+unfoldable pub ruling_of : Answer Imports → Answer (Unit {0})
+ruling_of (Ok i) = (Ok tt)
+ruling_of (Err r) = Err r
 
 -- One reading of the model's own fields: where the four that the second walk asks for begin.
 pub record Outlined (model : Bytes) (o : Outline) : Type 0 where
@@ -45,6 +38,6 @@ pub record Outlined (model : Bytes) (o : Outline) : Type 0 where
   pub rest : Starts model (whole model) 0 o.fifth × Starts model (whole model) 0 o.sixth
 
 -- Imports that are passed are left in the lists, above the oldest `top` names.
-unfoldable pub holds : (model : Bytes) (number : ℕ) (m : Field) (seed top : ℕ) (lists : List ℕ) → Heading → Type 0
-holds model number m seed top lists (heading.Imported i) = Imported model seed lists i (imports_in model number m) × (top ≤ i.listing.top)
-holds model number m seed top lists (heading.Refused r) = Unit {0}
+unfoldable pub holds : (model : Bytes) (number : ℕ) (m : Field) (seed top : ℕ) (lists : List ℕ) → Answer Imports → Type 0
+holds model number m seed top lists (Ok i) = Imported model seed lists i (imports_in model number m) × (top ≤ i.listing.top)
+holds model number m seed top lists (Err r) = Unit {0}

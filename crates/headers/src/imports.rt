@@ -1,4 +1,5 @@
 // The imports of a model or of a function, which stand in the fields `number` of a message: which domains they name, and the rules of each.
+ghost use Rattle.varint.specs.Answers.{outcome_of};
 ghost use Rattle.std.specs.Prelude.{◌≡◌, [], ◌^◌, ◌≤◌, ◌<◌, length};
 ghost use Rattle.varint.specs.Outcome.{each};
 ghost use Rattle.varint.specs.Bytes.{member};
@@ -10,68 +11,34 @@ ghost use Rattle.index.specs.Table.{Indexed};
 ghost use Rattle.index.specs.Memory.{known, table_of};
 ghost use Rattle.index.specs.Listing.{Held};
 ghost use Rattle.headers.specs.Imports.{imports_before, ImportsFrom};
-ghost use Rattle.headers.specs.Imported.{Imported, ImportAdded, ruling_of, headed, holds};
-ghost use Rattle.values.specs.Answers.{ruling_says};
+ghost use Rattle.headers.specs.Imported.{Imported, ImportAdded, ruling_of, holds};
 
-use crate::earlier::list_name;
+use crate::earlier::{any_before, list_name};
 use index::Listing;
 use operators::{allows, canonical, same_domain};
 use values::numbers::{OPERATOR_SET_ID_DOMAIN, OPERATOR_SET_ID_VERSION};
-use values::{Ruling, refused};
-use varint::Refusal;
-use wire::{Cursor, Field, Sought};
+use varint::{Refusal, refused};
+use wire::{Cursor, Field};
 
-// The domains that are imported: a listing of those with a name, and whether the default domain is one, which has none.
+// The domains that are imported: a listing of those with a name, and whether the default domain is one, which has none: a listing
+// holds names, so that this one stands beside it.
 #[derive(Clone, Copy)]
 pub struct Imports {
     pub listing: Listing,
     pub default: bool,
 }
 
-// What imports leave for the nodes, or why one is refused.
-#[derive(Drop)]
-pub enum Heading {
-    Imported(Imports),
-    Refused(Refusal),
-}
-
-pub(crate) fn headed(imports: Imports, ruling: Ruling) -> Heading
-    ensures { result ≡ headed imports ruling }
-{
-    match ruling {
-        Ruling::Kept => Heading::Imported(imports),
-        Ruling::Refused(r) => Heading::Refused(r),
-    }
-}
-
-// The ruling on the header alone.
-pub fn ruling_of(h: Heading) -> Ruling
-    ensures { result ≡ ruling_of h }
-{
-    match h {
-        Heading::Imported(_) => Ruling::Kept,
-        Heading::Refused(r) => Ruling::Refused(r),
-    }
-}
-
 // Is the domain that of an import before this place? The imports are read again.
 fn is_imported_before(model: &[u8], m: Field, number: u64, place: usize, d: &[u8]) -> bool
     ensures { result ≡ member (domain d.now) (imports_before model.now number m place) }
 {
-    let mut c = m.contents();
-    loop {
-        let sought = c.next_of(model, number);
-        let Sought::Found(f, next) = sought else {
-            return false;
-        };
-        if place <= f.place {
-            return false;
-        }
-        if same_domain(d, f.bytes_of(model, OPERATOR_SET_ID_DOMAIN)) {
-            return true;
-        }
-        c = next;
-    }
+    any_before(
+        model,
+        m.contents(),
+        number,
+        place,
+        |f| same_domain(d, f.bytes_of(model, OPERATOR_SET_ID_DOMAIN)),
+    )
 }
 
 // The same, by what is kept of the imports before this place.
@@ -131,18 +98,18 @@ fn opset_import(
     m: Field,
     number: u64,
     f: Field,
-) -> Ruling
+) -> Result<(), Refusal>
     requires { Imported model.now seed lists.now imports (imports_before model.now number m f.place) }
-    ensures { ruling_says result ≡ silent (opset_import model.now list.now (imports_before model.now number m f.place) f) }
+    ensures { outcome_of result ≡ silent (opset_import model.now list.now (imports_before model.now number m f.place) f) }
 {
     let d = f.bytes_of(model, OPERATOR_SET_ID_DOMAIN);
     if is_imported(model, lists, seed, imports, m, number, f.place, d) {
-        return refused(Ruling::IMPORTED_TWICE, f.place);
+        return refused(Refusal::IMPORTED_TWICE, f.place);
     }
     if !allows(list, d, f.number_of(model, OPERATOR_SET_ID_VERSION)) {
-        return refused(Ruling::VERSION_NOT_LISTED, f.place);
+        return refused(Refusal::VERSION_NOT_LISTED, f.place);
     }
-    Ruling::Kept
+    Ok(())
 }
 
 // Those from `at` on, listed above the oldest `top` names. An import that is passed has a domain that is new and in the operator list: there are never
@@ -156,38 +123,29 @@ pub fn opset_imports(
     m: Field,
     number: u64,
     at: usize,
-) -> Heading
+) -> Result<Imports, Refusal>
     requires imports_from { ImportsFrom model.now number m at }
     requires indexed { Indexed model.now seed (table_of lists.old) (known lists.old) }
     requires top_bound { top ≤ known lists.old }
     requires model_len_bound { length model.now < 2 ^ 32 }
-    ensures answer { ruling_says (ruling_of result) ≡ silent (each (opset_import model.now list.now) [] (all_of number (message model.now m))) }
+    ensures answer { outcome_of (ruling_of result) ≡ silent (each (opset_import model.now list.now) [] (all_of number (message model.now m))) }
     ensures imported { holds model.now number m seed top lists.new result }
     ensures held { Held model.now seed top lists.old lists.new }
 {
-    let mut c = Cursor {
-        at: at,
-        end: m.next,
-    };
+    let mut c = Cursor { at, end: m.next };
     let none = Listing {
         base: top,
-        top: top,
+        top,
         whole: true,
     };
     let mut imports = Imports {
         listing: none,
         default: false,
     };
-    loop {
-        let sought = c.next_of(model, number);
-        let Sought::Found(f, next) = sought else {
-            return Heading::Imported(imports);
-        };
-        let ruling = opset_import(model, list, lists, seed, imports, m, number, f);
-        let Ruling::Kept = ruling else {
-            return headed(imports, ruling);
-        };
+    while let Some((f, next)) = c.next_of(model, number) {
+        opset_import(model, list, lists, seed, imports, m, number, f)?;
         imports = list_import(model, lists, seed, imports, f);
         c = next;
     }
+    Ok(imports)
 }

@@ -6,7 +6,7 @@ mod headers;
 mod imports;
 mod wholes;
 
-pub use earlier::{is_earlier, is_earlier_field, is_listed, list_name};
-pub use headers::{header, unheaded};
-pub use imports::{Heading, Imports, is_imported, opset_imports, ruling_of};
+pub use earlier::{any_before, is_earlier, is_earlier_field, is_listed, list_name};
+pub use headers::header;
+pub use imports::{Imports, is_imported, opset_imports};
 pub use wholes::{has, model_outline, whole};

@@ -6,12 +6,13 @@ ghost use Rattle.wire.specs.Outline.{Starts};
 ghost use Rattle.headers.specs.Imported.{Outlined};
 
 use values::numbers::{MODEL_FUNCTIONS, MODEL_GRAPH, MODEL_IR_VERSION, MODEL_OPSET_IMPORT};
-use wire::{Field, Outline, Sought};
+use wire::{Field, Outline, value_in};
 
 // The wire type of a field with contents.
 const LEN: u64 = 2;
 
 // The model itself, as if it were the contents of a field: "and 0 for the model".
+#[tactic(auto, unfolding(wire::specs::Message::whole))]
 pub fn whole(model: &[u8]) -> Field
     ensures { result ≡ whole model.now }
 {
@@ -29,10 +30,7 @@ pub fn whole(model: &[u8]) -> Field
 pub fn has(model: &[u8], m: Field, number: u64) -> bool
     ensures { result ≡ present (first_of number (message model.now m)) }
 {
-    match m.first_of(model, number) {
-        Sought::Found(_, _) => true,
-        Sought::Missing => false,
-    }
+    m.first_of(model, number).is_some()
 }
 
 // The same, from where an outline says that such fields begin.
@@ -40,17 +38,14 @@ pub(crate) fn has_from(model: &[u8], m: Field, number: u64, at: usize) -> bool
     requires { Starts model.now m number at }
     ensures { result ≡ present (first_of number (message model.now m)) }
 {
-    match m.first_from(model, number, at) {
-        Sought::Found(_, _) => true,
-        Sought::Missing => false,
-    }
+    m.first_from(model, number, at).is_some()
 }
 
 pub(crate) fn number_from(model: &[u8], m: Field, number: u64, at: usize) -> u64
     requires { Starts model.now m number at }
     ensures { result ≡ number_of number (message model.now m) }
 {
-    m.first_from(model, number, at).value()
+    value_in(m.first_from(model, number, at))
 }
 
 // One reading of the model's own fields, which may be many.

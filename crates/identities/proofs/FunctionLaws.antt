@@ -1,29 +1,23 @@
 -- Who a function is: its parts, its contents, and two of them compared; and the search among the functions before a place.
 use Prim.Native.Nat.{ℕ, ◌+◌, ◌-◌, ◌≤◌, ◌<◌}
 use native.Mathlib.Omega.{arith}
-use mathlib.Core.Path.{◌≡◌, refl, sym, ap, ◌∙◌}
-use mathlib.Core.Bool.{Bool, true, false, not, ◌&&◌, ◌||◌}
-use mathlib.Core.List.{List, [], ◌∷◌, map}
+use mathlib.Core.Path.{◌≡◌, refl, sym, ap, subst, ◌∙◌}
+use mathlib.Core.Bool.{Bool, true, false, not, ◌&&◌}
+use mathlib.Core.List.{List, [], map}
 use lib.Dec.{T, leb, leb→le, nleb→lt}
 use lib.ListN.{length}
 use borrow.Author.Tests.{le-leb, lt-leb}
 use Rattle.varint.specs.Bytes.{Bytes, same}
 use Rattle.varint.proofs.Bytes.{same→eq}
-use Rattle.varint.proofs.Answers.{says}
 use Rattle.wire.specs.Wire.{fields}
 use Rattle.wire.specs.Message.{Message, all_of, first_of, bytes_of, message, whole}
-use Rattle.wire.specs.Answers.{sought_says, sought_in}
 use Rattle.wire.specs.Outline.{Starts}
 use Rattle.wire.specs.declared.Field.{Field}
-use Rattle.wire.specs.declared.Cursor.{Cursor}
-use Rattle.wire.specs.declared.Sought.{Sought}
-use Rattle.wire.specs.declared.Sought.TheVariants as sought
-use Rattle.wire.proofs.Along.{all_from, Onward, all_none, all_some}
 use Rattle.wire.proofs.Fields.{fields_done}
 use Rattle.schema.specs.Numbers.{Model-functions, Function-name, Function-overload}
 use Rattle.rules.specs.Identity.{Identity, identity_of, same_identity, identified}
-use Rattle.headers.specs.Earlier.{before}
-use Rattle.headers.proofs.EarlierLaws.{before_past, before_here}
+use Rattle.headers.specs.Earlier.{before, before_from, AnySays}
+use Rattle.headers.proofs.EarlierLaws.{any_told}
 use Rattle.identities.specs.Functions.{identity_by, identity_in, domain_in, functions_before}
 use Rattle.identities.specs.Identified.{holding}
 
@@ -129,50 +123,14 @@ module _ (model : Bytes) (version : ℕ) (f : Field) (n d o : Bytes) {y : Bytes}
 pub identified_by : {x y : Identity} → x ≡ y → (l : List Identity) {b : Bool} → b ≡ identified x l → b ≡ identified y l
 identified_by e l eb = eb ∙ ap (λ (z : Identity). identified z l) e
 
--- ---- the functions before a place, read again: the whole search for x answers `o`
+-- ---- the functions before a place, read again from where they begin: a test that looks for x
 
-pub record Rereading (model : Bytes) (version place : ℕ) (x : Identity) (o : Bool) (c : Cursor) : Type 0 where
-  pub ends : c.end ≡ length model
-  pub rest : identified x (map (identity_in model version) (before place (all_from model Model-functions (length model) c.at))) ≡ o
-
-pub reread_start : (model : Bytes) (version place : ℕ) (x : Identity) {pos : ℕ} → Starts model (whole model) Model-functions pos
-    → Rereading model version place x (identified x (map (identity_in model version) (functions_before model place))) (record { at = pos; end = length model })
-unfolding functions_before all_from whole
-reread_start model version place x k = record { ends = refl; rest = ap (λ (l : List Field). identified x (map (identity_in model version) (before place l))) k.same }
-
-module _ {model : Bytes} {version place : ℕ} {x : Identity} {o : Bool} {c : Cursor} (q : Rereading model version place x o c)
-    {r : Sought} (read : sought_says r ≡ sought_in model Model-functions c.end c.at) where
-  pub reread_done : r ≡ sought.Missing → false ≡ o
-  unfolding sought_says before identified
-  reread_done e =
-      ap (λ (l : List Field). identified x (map (identity_in model version) (before place l)))
-      (sym (all_none model Model-functions (length model) c.at (says sought_says (rw q.ends at read) e)))
-      ∙ q.rest
-
-  module _ {f : Field} {next : Cursor} (e : r ≡ sought.Found f next) where
-    went : Onward model Model-functions (length model) c.at f next
-    unfolding sought_says
-    went = all_some model Model-functions (length model) c.at (says sought_says (rw q.ends at read) e)
-
-    pub reread_falls : length model - next.at < length model - c.at
-    reread_falls = let far = went.onward in let near = went.inside in omega arith
-
-    parted : {l : List Field} → before place (f ∷ all_from model Model-functions (length model) next.at) ≡ l → identified x (map (identity_in model version) l) ≡ o
-    parted k = ap (λ (m : List Field). identified x (map (identity_in model version) m)) (sym (ap (before place) went.list ∙ k)) ∙ q.rest
-
-    pub reread_past : place ≤ f.place → false ≡ o
-    unfolding identified
-    reread_past h = parted (before_past place f _ h)
-
-    module _ (h : f.place < place) {b : Bool} (i : b ≡ same_identity x (identity_in model version f)) where
-      here : (b || identified x (map (identity_in model version) (before place (all_from model Model-functions (length model) next.at)))) ≡ o
-      unfolding identified
-      here =
-          ap (λ (y : Bool). y || identified x (map (identity_in model version) (before place (all_from model Model-functions (length model) next.at)))) i
-          ∙ parted (before_here place f _ h)
-
-      pub reread_here : b ≡ true → true ≡ o
-      reread_here k = rw k at here
-
-      pub reread_next : b ≡ false → Rereading model version place x o next
-      reread_next k = record { ends = went.ends; rest = rw k at here }
+pub any_identified : {Says : Field → Bool → Type 0} (version : ℕ) (x : Identity) {model : Bytes}
+    → ((f : Field) (b : Bool) → Says f b → b ≡ same_identity x (identity_in model version f))
+    → (place : ℕ) {pos : ℕ} → Starts model (whole model) Model-functions pos
+    → {r : Bool} → AnySays Says (before_from model Model-functions place (record { at = pos; end = length model })) r
+    → r ≡ identified x (map (identity_in model version) (functions_before model place))
+unfolding functions_before before_from whole identified
+any_identified {Says} version x {model} h place k {r} d =
+    any_told (λ f. same_identity x (identity_in model version f)) (λ l. identified x (map (identity_in model version) l)) refl (λ f l. refl) h
+    (functions_before model place) (subst (λ (l : List Field). AnySays Says (before place l) r) k.same d)

@@ -1,4 +1,5 @@
 -- A loop over the functions of a model, with what is kept of those behind it. No function of this crate has it: whoever judges functions does.
+use Rattle.std.specs.Prelude.{Option, Some}
 use Prim.Native.Nat.{ℕ, ◌≤◌}
 use native.Mathlib.Omega.{arith}
 use mathlib.Core.Path.{◌≡◌, refl, sym, ap, subst, ◌∙◌}
@@ -10,11 +11,9 @@ use Rattle.wire.specs.Wire.{field}
 use Rattle.wire.specs.Message.{all_of, message, whole}
 use Rattle.wire.specs.Order.{Ordered}
 use Rattle.wire.specs.Outline.{Starts}
-use Rattle.wire.specs.Answers.{sought_says, sought_in}
+use Rattle.wire.specs.Answers.{sought_says, sought_in, Sought}
 use Rattle.wire.specs.declared.Field.{Field}
 use Rattle.wire.specs.declared.Cursor.{Cursor}
-use Rattle.wire.specs.declared.Sought.{Sought}
-use Rattle.wire.specs.declared.Sought.TheVariants as sought
 use Rattle.wire.proofs.Along.{all_from, Onward, found_onward}
 use Rattle.wire.proofs.Fields.{all_of_ordered}
 use Rattle.wire.proofs.Reading.{Fits, AtTag, field_tells}
@@ -23,7 +22,6 @@ use Rattle.headers.specs.Earlier.{before}
 use Rattle.headers.proofs.EarlierLaws.{before_split}
 use Rattle.identities.specs.Functions.{functions_before}
 use Rattle.identities.specs.Identified.{Identified, Added}
-use Rattle.identities.specs.declared.Identities.{Identities}
 
 module _ (model : Bytes) where
   abbrev pub All : List Field
@@ -43,22 +41,22 @@ functions_split model pre f rest e = ap (before f.place) e ∙ before_split 0 (l
 
 -- ---- the loop: the functions of `pre` are behind the cursor, the rest stand from it on
 
-pub record Defining (model : Bytes) (seed version : ℕ) (table : List ℕ) (known : Identities) (c : Cursor) : Type 0 where
+pub record Defining (model : Bytes) (seed version : ℕ) (table : List ℕ) (known : Option ℕ) (c : Cursor) : Type 0 where
   pub pre : List Field
   pub ends : c.end ≡ length model
   pub split : All model ≡ pre ++ From model c.at
   pub identified : Identified model seed version table known pre
 
-pub defining_start : {model : Bytes} {seed version : ℕ} {table : List ℕ} {known : Identities} {pos : ℕ} → Starts model (whole model) Model-functions pos
+pub defining_start : {model : Bytes} {seed version : ℕ} {table : List ℕ} {known : Option ℕ} {pos : ℕ} → Starts model (whole model) Model-functions pos
     → Identified model seed version table known []
     → Defining model seed version table known (record { at = pos; end = length model })
 unfolding whole all_from
 defining_start k i = record { pre = []; ends = refl; split = sym k.same; identified = i }
 
 -- r is the answer of the search at the cursor
-module _ {model : Bytes} {seed version : ℕ} {table : List ℕ} {known : Identities} {c : Cursor} (q : Defining model seed version table known c)
+module _ {model : Bytes} {seed version : ℕ} {table : List ℕ} {known : Option ℕ} {c : Cursor} (q : Defining model seed version table known c)
     {r : Sought} (read : sought_says r ≡ sought_in model Model-functions c.end c.at) where
-  module _ {f : Field} {next : Cursor} (e : r ≡ sought.Found f next) where
+  module _ {f : Field} {next : Cursor} (e : r ≡ Some (f, next)) where
     went : Onward model Model-functions (length model) c.at f next
     went = found_onward model Model-functions (length model) q.ends read e
 
@@ -79,7 +77,7 @@ module _ {model : Bytes} {seed version : ℕ} {table : List ℕ} {known : Identi
     defining_before = subst (Identified model seed version table known) (sym defining_seen) q.identified
 
     -- the function was added
-    pub defining_goes : {later : List ℕ} {more : Identities} → Added model seed version known f table later more → Defining model seed version later more next
+    pub defining_goes : {later : List ℕ} {more : Option ℕ} → Added model seed version known f table later more → Defining model seed version later more next
     defining_goes a = record {
       pre = q.pre ++ (f ∷ []);
       ends = went.ends;

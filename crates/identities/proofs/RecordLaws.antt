@@ -1,12 +1,13 @@
 -- Functions in a table: the records of a bucket, all records, one more.
+use Rattle.std.specs.Prelude.{Option, Some, None, is_some}
 use Prim.Native.Nat.{ℕ, suc, ◌+◌, ◌-◌, ◌*◌, ◌≤◌, ◌<◌}
 use native.Mathlib.Omega.{arith}
 use native.Mathlib.Numerals.{add-one}
 use mathlib.Core.Path.{◌≡◌, refl, sym, ap, subst, ◌∙◌}
-use mathlib.Core.Bool.{Bool, true, false, ◌&&◌, ◌||◌}
+use mathlib.Core.Bool.{Bool, true, false, ◌||◌}
 use mathlib.Core.List.{List, [], ◌∷◌, ◌++◌, map}
 use lib.ListN.{length, get_or, replicate, length-append}
-use lib.Dec.{T, ltb}
+use lib.Dec.{T}
 use borrow.Author.Tests.{lt-ltb, le-ltb}
 use Rattle.varint.specs.Bytes.{Bytes}
 use Rattle.varint.proofs.Lists.{or_shift, or_false}
@@ -16,8 +17,7 @@ use Rattle.index.specs.Bucket.{bucket3}
 use Rattle.index.specs.Table.{capacity, record_at, start_in, length_in, key_in, Chained, Put}
 use Rattle.index.proofs.ChainLaws.{Following, follow_start, follow_less, follow_next, chained_none}
 use Rattle.identities.specs.Functions.{identity_by, identity_in}
-use Rattle.identities.specs.Identified.{holding, function_in, identities_in, bucket_of, by_identity, Recorded, Identified, Added}
-use Rattle.identities.specs.declared.Identities.{Identities}
+use Rattle.identities.specs.Identified.{holding, function_in, identities_in, bucket_of, by_identity, Recorded, HasAll, Identified, has_room, Added}
 use Rattle.identities.proofs.FunctionLaws.{identity_holding, identity_differ}
 
 -- ---- a record, read where the code reads it: c is the capacity, s the start, n the length
@@ -119,30 +119,30 @@ records_tell model version table x i (f ∷ fs) k =
     (record_of model version table i f k.0 k.1)
     ∙ or_shift (identified x (map (identity_in model version) fs)) (same_identity x (identity_in model version f)) (identified x (identities_in model version table i))
 
--- a whole table tells whether a function is one of those that it has
-pub whole_tells : {model : Bytes} {seed version : ℕ} {table : List ℕ} {known : Identities} {fs : List Field} → Identified model seed version table known fs
-    → known.whole ≡ true → {x y : Identity} → x ≡ y → {b : Bool}
-    → b ≡ identified x (identities_in model version table known.count)
+-- where it is known how many they are
+pub has_all : {model : Bytes} {seed version : ℕ} {table : List ℕ} {known : Option ℕ} {fs : List Field} → Identified model seed version table known fs
+    → {count : ℕ} → known ≡ Some count → HasAll model seed version table count fs
+unfolding Identified
+has_all {model} {seed} {version} {table} {known} {fs} k w = subst (λ (o : Option ℕ). Identified model seed version table o fs) w k
+
+-- a table that has all tells whether a function is one of them
+pub all_tell : {model : Bytes} {seed version : ℕ} {table : List ℕ} {count : ℕ} {fs : List Field} → HasAll model seed version table count fs
+    → {x y : Identity} → x ≡ y → {b : Bool}
+    → b ≡ identified x (identities_in model version table count)
     → b ≡ identified y (map (identity_in model version) fs)
 unfolding identified identities_in
-whole_tells {model} {seed} {version} {table} {known} {fs} k w {x} {y} e eb =
-    let n : known.count ≡ 0 + length fs = omega (arith, k.counted w) in
+all_tell {model} {seed} {version} {table} {count} {fs} k {x} {y} e eb =
+    let n : count ≡ 0 + length fs = omega (arith, k.counted) in
     eb
     ∙ ap (λ (m : ℕ). identified x (identities_in model version table m)) n
-    ∙ records_tell model version table x 0 fs (k.recorded w)
+    ∙ records_tell model version table x 0 fs k.recorded
     ∙ or_false (identified x (map (identity_in model version) fs))
     ∙ ap (λ (z : Identity). identified z (map (identity_in model version) fs)) e
 
 -- ---- one function more
 
-never_whole : {b : Bool} → b ≡ false → b ≡ true → ⊥
-never_whole e k = subst T (sym k ∙ e) tt
-
--- of a table that is not whole nothing is asked but its chains
-chains_alone : {model : Bytes} {seed version : ℕ} {table : List ℕ} {known : Identities} {fs : List Field} → Identified model seed version table known fs
-    → (w : Bool) → w ≡ false → (gs : List Field)
-    → Identified model seed version table (record { count = known.count; whole = w }) gs
-chains_alone k w e gs = record { chained = k.chained; counted = λ t. absurd (never_whole e t); recorded = λ t. absurd (never_whole e t) }
+never_none : {n : ℕ} → Some n ≡ None → ⊥
+never_none e = subst T (ap is_some e) tt
 
 recorded_more : (t u : List ℕ) (i : ℕ) (fs : List Field) (f : Field) → Recorded t i fs
     → ((j : ℕ) → j < i + length fs → start_in u j ≡ start_in t j) → ((j : ℕ) → j < i + length fs → length_in u j ≡ length_in t j)
@@ -156,38 +156,40 @@ recorded_more t u i (g ∷ fs) f k s l e h =
       recorded_more t u (suc i) fs f k.2 (λ j m. s j (omega arith)) (λ j m. l j (omega arith)) (ap (start_in u) z ∙ e) (ap (length_in u) z ∙ h),
     )
 
-module _ (model : Bytes) (seed version : ℕ) (known : Identities) (f : Field) {t : List ℕ} where
-  pub added_none : known.whole ≡ false → Added model seed version known f t t known
+module _ (model : Bytes) (seed version : ℕ) (known : Option ℕ) (f : Field) {t : List ℕ} where
+  pub added_none : known ≡ None → Added model seed version known f t t None
+  unfolding Identified has_room
   added_none e = record {
     size = refl;
-    whole = e ∙ sym (ap (λ (b : Bool). b && ltb known.count (capacity (length t))) e);
+    whole = sym (ap (λ (k : Option ℕ). has_room k (capacity (length t))) e);
     alone = λ _. refl;
-    identified = λ fs k. chains_alone k known.whole e (fs ++ (f ∷ []));
+    identified = λ fs k. tt;
   }
 
-  module _ (w : known.whole ≡ true) {c : ℕ} (ec : c ≡ capacity (length t)) where
-    pub added_full : c ≤ known.count → Added model seed version known f t t (record { count = known.count; whole = false })
+  module _ {used : ℕ} (w : known ≡ Some used) {c : ℕ} (ec : c ≡ capacity (length t)) where
+    pub added_full : c ≤ used → Added model seed version known f t t None
+    unfolding Identified has_room
     added_full h = record {
       size = refl;
-      whole = sym (ap (λ (b : Bool). b && ltb known.count (capacity (length t))) w ∙ le-ltb known.count (capacity (length t)) (omega arith));
+      whole = sym (ap (λ (k : Option ℕ). has_room k (capacity (length t))) w ∙ le-ltb used (capacity (length t)) (omega arith));
       alone = λ _. refl;
-      identified = λ fs k. chains_alone k false refl (fs ++ (f ∷ []));
+      identified = λ fs k. tt;
     }
 
     -- b is the bucket of the function
-    pub added_more : known.count < c → {n d o : Bytes} → identity_by n d o ≡ identity_in model version f → {b : ℕ} → b ≡ bucket3 seed c n d o
-        → {u : List ℕ} → Put known.count b f.start (f.next - f.start) t u
-        → Added model seed version known f t u (record { count = known.count + 1; whole = true })
-    unfolding by_identity bucket_of
+    pub added_more : used < c → {n d o : Bytes} → identity_by n d o ≡ identity_in model version f → {b : ℕ} → b ≡ bucket3 seed c n d o
+        → {u : List ℕ} → Put used b f.start (f.next - f.start) t u
+        → Added model seed version known f t u (Some (used + 1))
+    unfolding by_identity bucket_of Identified has_room
     added_more room {n} {d} {o} ei {b} eb {u} p = record {
       size = p.size;
-      whole = sym (ap (λ (v : Bool). v && ltb known.count (capacity (length t))) w ∙ lt-ltb known.count (capacity (length t)) (omega arith));
-      alone = λ e. absurd (never_whole e refl);
-      identified = λ fs k. let z : known.count ≡ 0 + length fs = omega (arith, k.counted w) in record {
-        chained = rw add-one (subst (λ (m : ℕ). Chained (by_identity model seed version (capacity m)) u (suc known.count)) (sym p.size)
-            (p.chained (by_identity model seed version (capacity (length t))) in_bucket k.chained));
-        counted = λ _. omega (arith, length-append fs (f ∷ []));
-        recorded = λ _. recorded_more t u 0 fs f (k.recorded w) (λ j l. p.starts j (omega arith)) (λ j l. p.lengths j (omega arith))
+      whole = sym (ap (λ (k : Option ℕ). has_room k (capacity (length t))) w ∙ lt-ltb used (capacity (length t)) (omega arith));
+      alone = λ e. absurd (never_none e);
+      identified = λ fs k. let all = has_all k w in let z : used ≡ 0 + length fs = omega (arith, all.counted) in record {
+        chained = rw add-one (subst (λ (m : ℕ). Chained (by_identity model seed version (capacity m)) u (suc used)) (sym p.size)
+            (p.chained (by_identity model seed version (capacity (length t))) in_bucket all.chained));
+        counted = omega (arith, length-append fs (f ∷ []));
+        recorded = recorded_more t u 0 fs f all.recorded (λ j l. p.starts j (omega arith)) (λ j l. p.lengths j (omega arith))
             (ap (start_in u) (sym z) ∙ p.started) (ap (length_in u) (sym z) ∙ p.measured);
       };
     }
@@ -201,9 +203,10 @@ module _ (model : Bytes) (seed version : ℕ) (known : Identities) (f : Field) {
 -- ---- no functions yet
 
 -- a table of zeros holds none
-pub identified_none : (model : Bytes) (seed version n : ℕ) → Identified model seed version (replicate n 0) (record { count = 0; whole = true }) []
+pub identified_none : (model : Bytes) (seed version n : ℕ) → Identified model seed version (replicate n 0) (Some 0) []
+unfolding Identified
 identified_none model seed version n = record {
   chained = chained_none (by_identity model seed version (capacity (length {A = ℕ} (replicate n 0)))) n;
-  counted = λ _. refl;
-  recorded = λ _. tt;
+  counted = refl;
+  recorded = tt;
 }

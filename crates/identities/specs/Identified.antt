@@ -1,5 +1,5 @@
 -- Functions of a model in a table: a record has the start and the length of a function's contents, and goes by who the function is.
-use Rattle.std.specs.Prelude.{ℕ, zero, suc, ◌+◌, ◌-◌, ◌≡◌, true, false, ◌&&◌, List, [], ◌∷◌, ◌++◌, length, ltb}
+use Rattle.std.specs.Prelude.{ℕ, zero, suc, ◌+◌, ◌-◌, ◌≡◌, Bool, false, List, [], ◌∷◌, ◌++◌, length, ltb, Option, Some, None, is_some}
 use Rattle.varint.specs.Bytes.{Bytes}
 use Rattle.wire.specs.Wire.{LEN}
 use Rattle.wire.specs.declared.Field.{Field}
@@ -8,7 +8,6 @@ use Rattle.headers.specs.Earlier.{before}
 use Rattle.index.specs.Bucket.{bucket3, Bucket-computes}
 use Rattle.index.specs.Table.{capacity, start_in, length_in, Chained, Table-computes}
 use Rattle.identities.specs.Functions.{identity_in, functions_before}
-use Rattle.identities.specs.declared.Identities.{Identities}
 
 -- A field with these contents. No more of a field matters to who a function is.
 unfoldable pub holding : (start len : ℕ) → Field
@@ -36,18 +35,28 @@ abbrev pub Recorded : (table : List ℕ) (i : ℕ) → List Field → Type 0
 Recorded table i [] = Unit {0}
 Recorded table i (f ∷ more) = (start_in table i ≡ f.start) × (length_in table i ≡ f.next - f.start) × Recorded table (suc i) more
 
--- What a table has of these functions: where it is whole, all of them.
-pub record Identified (model : Bytes) (seed version : ℕ) (table : List ℕ) (known : Identities) (functions : List Field) : Type 0 where
-  pub chained : Chained (by_identity model seed version (capacity (length table))) table known.count
-  pub counted : known.whole ≡ true → known.count ≡ length functions
-  pub recorded : known.whole ≡ true → Recorded table 0 functions
+-- A table has all of these functions, and so many they are.
+pub record HasAll (model : Bytes) (seed version : ℕ) (table : List ℕ) (count : ℕ) (functions : List Field) : Type 0 where
+  pub chained : Chained (by_identity model seed version (capacity (length table))) table count
+  pub counted : count ≡ length functions
+  pub recorded : Recorded table 0 functions
 
--- A function was added: what a table had of some functions it has of them and this one. It stays whole as long as there is room, and where
--- it is not whole it is left alone.
-pub record Added (model : Bytes) (seed version : ℕ) (known : Identities) (f : Field) (before after : List ℕ) (r : Identities) : Type 0 where
+-- What a table has of these functions: all of them, where it is known how many.
+unfoldable pub Identified : (model : Bytes) (seed version : ℕ) (table : List ℕ) (known : Option ℕ) (functions : List Field) → Type 0
+Identified model seed version table (Some count) functions = HasAll model seed version table count functions
+Identified model seed version table None functions = Unit {0}
+
+-- Does a table of this capacity have all functions, and room for one more?
+unfoldable pub has_room : (known : Option ℕ) (size : ℕ) → Bool
+has_room (Some count) size = ltb count size
+has_room None size = false
+
+-- A function was added: what a table had of some functions it has of them and this one. It has all as long as there is room, and where
+-- it does not it is left alone.
+pub record Added (model : Bytes) (seed version : ℕ) (known : Option ℕ) (f : Field) (before after : List ℕ) (r : Option ℕ) : Type 0 where
   pub size : length after ≡ length before
-  pub whole : r.whole ≡ (known.whole && ltb known.count (capacity (length before)))
-  pub alone : r.whole ≡ false → after ≡ before
+  pub whole : is_some r ≡ has_room known (capacity (length before))
+  pub alone : r ≡ None → after ≡ before
   pub identified : (functions : List Field) → Identified model seed version before known functions → Identified model seed version after r (functions ++ (f ∷ []))
 
 -- Definitions of this crate and what they are built on, for whoever computes with them.

@@ -6,10 +6,11 @@ ghost use Rattle.schema.specs.Numbers.{Model-functions};
 ghost use Rattle.rules.specs.Identity.{same_identity, identified};
 ghost use Rattle.identities.specs.Functions.{identity_by, identity_in, domain_in, functions_before};
 
+use headers::any_before;
 use operators::canonical;
 use values::numbers::{FUNCTION_DOMAIN, FUNCTION_NAME, FUNCTION_OVERLOAD, MODEL_FUNCTIONS};
 use varint::{between, same_bytes};
-use wire::{Cursor, Field, Sought};
+use wire::{Cursor, Field};
 
 // "from IR 10 overload too"
 const OVERLOADS: u64 = 10;
@@ -64,21 +65,15 @@ pub(crate) fn has_earlier(
     requires { Starts model.now (whole model.now) Model-functions at }
     ensures { result ≡ identified (identity_by name.now domain.now overload.now) (map (identity_in model.now version) (functions_before model.now place)) }
 {
-    let mut c = Cursor {
-        at: at,
+    let from = Cursor {
+        at,
         end: model.len(),
     };
-    loop {
-        let sought = c.next_of(model, MODEL_FUNCTIONS);
-        let Sought::Found(f, next) = sought else {
-            return false;
-        };
-        if place <= f.place {
-            return false;
-        }
-        if has_identity(model, version, f, name, domain, overload) {
-            return true;
-        }
-        c = next;
-    }
+    any_before(
+        model,
+        from,
+        MODEL_FUNCTIONS,
+        place,
+        |f| has_identity(model, version, f, name, domain, overload),
+    )
 }

@@ -6,10 +6,3 @@ mod functions;
 mod records;
 
 pub use records::{add, is_defined};
-
-// How many functions a table has, and whether it has all so far.
-#[derive(Clone, Copy)]
-pub struct Identities {
-    pub count: usize,
-    pub whole: bool,
-}

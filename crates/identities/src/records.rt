@@ -8,7 +8,6 @@ ghost use Rattle.index.specs.Table.{capacity, Chained};
 ghost use Rattle.identities.specs.Functions.{identity_by, functions_before};
 ghost use Rattle.identities.specs.Identified.{function_in, identities_in, by_identity, Identified, Added};
 
-use crate::Identities;
 use crate::functions::{domain_of, has_earlier, has_identity, overload_of};
 use index::{bucket_of_three, capacity, cell, put};
 use values::numbers::FUNCTION_NAME;
@@ -29,7 +28,7 @@ fn function_of(table: &[u32], i: usize) -> Field
         number: 0,
         wire: LEN,
         value: 0,
-        start: start,
+        start,
         next: start + cell(table, at + 1),
     }
 }
@@ -53,6 +52,7 @@ fn has_record(
     }
     let size = capacity(table);
     let mut i = cell(table, bucket_of_three(name, domain, overload, seed, size));
+    // A `while`: it follows the links of a chain and counts nothing.
     while 0 < i {
         let here = i - 1;
         let f = function_of(table, here);
@@ -64,12 +64,13 @@ fn has_record(
     false
 }
 
-// Is an earlier function of the model the same as this one? The model's functions begin at `at`.
+// Is an earlier function of the model the same as this one? The model's functions begin at `at`; `known` says how many functions the table has,
+// where it has them all.
 pub fn is_defined(
     model: &[u8],
     table: &[u32],
     seed: u64,
-    known: Identities,
+    known: Option<usize>,
     version: u64,
     at: usize,
     f: Field,
@@ -81,52 +82,34 @@ pub fn is_defined(
     let name = f.bytes_of(model, FUNCTION_NAME);
     let domain = domain_of(model, f);
     let overload = overload_of(model, version, f);
-    if known.whole {
-        return has_record(
-            model,
-            table,
-            seed,
-            known.count,
-            version,
-            name,
-            domain,
-            overload,
-        );
+    match known {
+        Some(used) => has_record(model, table, seed, used, version, name, domain, overload),
+        None => has_earlier(model, version, at, f.place, name, domain, overload),
     }
-    has_earlier(model, version, at, f.place, name, domain, overload)
 }
 
-// The functions with one more. Where there is no room for it they are no longer whole, and the table is left alone from then on.
+// The functions with one more: how many the table has now. None where it does not have them all, and then it is left alone from then on.
 pub fn add(
     model: &[u8],
     table: &mut [u32],
     seed: u64,
-    known: Identities,
+    known: Option<usize>,
     version: u64,
     f: Field,
-) -> Identities
+) -> Option<usize>
     requires identified { Identified model.now seed version table.old known (functions_before model.now f.place) }
     requires model_len_bound { (length model.now < 2 ^ 32) × (f.start ≤ f.next) × (f.next ≤ length model.now) }
     ensures { Added model.now seed version known f table.old table.new result }
 {
-    if !known.whole {
-        return known;
-    }
-    let used = known.count;
+    let used = known?;
     let size = capacity(table);
     if size <= used {
-        return Identities {
-            count: used,
-            whole: false,
-        };
+        return None;
     }
     let name = f.bytes_of(model, FUNCTION_NAME);
     let domain = domain_of(model, f);
     let overload = overload_of(model, version, f);
     let head = bucket_of_three(name, domain, overload, seed, size);
     put(table, used, head, f.start as u32, (f.next - f.start) as u32);
-    Identities {
-        count: used + 1,
-        whole: true,
-    }
+    Some(used + 1)
 }

@@ -1,4 +1,5 @@
 -- A list of names on a memory: a name more, what others do above it, and a list that is begun.
+use Rattle.std.specs.Prelude.{Some}
 use Prim.Native.Nat.{ℕ, suc, ◌+◌, ◌≤◌, ◌<◌}
 use native.Mathlib.Omega.{arith}
 use mathlib.Core.Path.{◌≡◌, refl, sym, ap, subst, ◌∙◌}
@@ -13,7 +14,6 @@ use Rattle.index.specs.Table.{name_of, names_in, seek, since, Indexed, Stays}
 use Rattle.index.specs.Memory.{known, table_of, Remembers, Remembered}
 use Rattle.index.specs.Listing.{Listed, Held, Added}
 use Rattle.index.specs.declared.listings.Listing.{Listing}
-use Rattle.index.specs.declared.Found.TheVariants as found
 use Rattle.index.proofs.TableLaws.{names_length, names_same}
 use Rattle.index.proofs.UseLaws.{since_none, stays_fewer}
 
@@ -55,7 +55,7 @@ pub since_more : (x y : Bytes) (older : List Bytes) (base : ℕ) → base ≤ le
 unfolding seek since
 since_more x y older base h = go (same x y)
   where
-    go : (t : Bool) → since base (elim t [ true ↦ found.At (length older) | false ↦ seek x older ]) ≡ (t || since base (seek x older))
+    go : (t : Bool) → since base (elim t [ true ↦ Some (length older) | false ↦ seek x older ]) ≡ (t || since base (seek x older))
     go true = le-leb base (length older) h
     go false = refl
 

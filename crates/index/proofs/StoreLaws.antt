@@ -1,4 +1,5 @@
 -- The table of names with one record more and one less: what a store leaves.
+use Rattle.std.specs.Prelude.{Ok, Err}
 use Prim.Native.Nat.{ℕ, suc, ◌+◌, ◌-◌, ◌*◌, ◌≤◌, ◌<◌}
 use native.Mathlib.Omega.{arith}
 use mathlib.Core.Path.{◌≡◌, refl, sym, ap, subst, ◌∙◌}
@@ -8,7 +9,6 @@ use lib.Seq.{get_or-set_same, get_or-set_other}
 use Rattle.varint.specs.Bytes.{Bytes, part}
 use Rattle.index.specs.Bucket.{bucket}
 use Rattle.index.specs.Table.{capacity, record_at, start_in, length_in, link_of, name_of, names_in, key_in, by_name, Chained, Put, Indexed, Stays, pushing}
-use Rattle.index.specs.declared.Pushed.TheVariants as pushed
 use Rattle.index.proofs.BucketLaws.{bucket_below}
 use Rattle.index.proofs.ChainLaws.{capacity_fits, start_stays, length_stays, chain_less, head_stored}
 use Rattle.index.proofs.TableLaws.{names_same}
@@ -88,7 +88,7 @@ module _ (model : Bytes) (seed : ℕ) {t u : List ℕ} {k : ℕ} (ix : Indexed m
   unfolding name_of
   push_new = rw (p.started, p.measured)
 
-  pub push_added : pushing model seed start len k t u pushed.Added × Stays model k t u
+  pub push_added : pushing model seed start len k t u (Ok tt) × Stays model k t u
   unfolding pushing names_in
   push_added =
       let q : start + len - start ≡ len = omega arith in
@@ -103,6 +103,6 @@ module _ (model : Bytes) (seed : ℕ) {t u : List ℕ} {k : ℕ} (ix : Indexed m
 
 pub push_full : (model : Bytes) (seed : ℕ) {t : List ℕ} {k : ℕ} (ix : Indexed model seed t k) {c : ℕ} (start len : ℕ)
     → c ≡ capacity (length t) → c ≤ k
-    → pushing model seed start len k t t pushed.Full × Stays model k t t
+    → pushing model seed start len k t t (Err (record {})) × Stays model k t t
 unfolding pushing
 push_full model seed {t} {k} ix start len ec h = ((omega (arith, ix.fits), refl), stays_all model k t)

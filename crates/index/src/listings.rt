@@ -6,10 +6,11 @@ ghost use Rattle.index.specs.Memory.{known, table_of};
 ghost use Rattle.index.specs.Listing.{Added};
 
 use crate::memories::{known, recall, remember_name};
+use crate::since;
 use wire::Field;
 
 // A list's own names are those that are remembered from `base` on, up to `top`: all of them if it is whole. A list that found no
-// room is not whole, and its names must be read again.
+// room is not whole, and its names must be read again: `whole` stands beside `top`, since the next list begins at `top` either way.
 #[derive(Clone, Copy)]
 pub struct Listing {
     pub base: usize,
@@ -24,8 +25,7 @@ impl Listing {
         requires top_bound { self.top ≤ known cells.now }
         ensures { result ≡ since self.base (seek name.now (names_in model.now (table_of cells.now) self.top)) }
     {
-        let base = self.base;
-        recall(model, cells, seed, self.top, name).since(base)
+        since(recall(model, cells, seed, self.top, name), self.base)
     }
 
     // One name more, that in a field.
@@ -49,7 +49,7 @@ impl Listing {
         }
         Listing {
             base: self.base,
-            top: top,
+            top,
             whole: false,
         }
     }

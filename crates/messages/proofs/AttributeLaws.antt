@@ -1,4 +1,6 @@
 -- An attribute's rules in the order of the code's tests.
+use Rattle.std.specs.Prelude.{Err, Ok}
+use Rattle.varint.specs.Answers.{Answer, outcome_of}
 use Prim.Native.Nat.{ℕ}
 use mathlib.Core.Path.{◌≡◌, sym, ap, ◌∙◌}
 use mathlib.Core.Bool.{Bool, true, false, not, ◌&&◌}
@@ -17,12 +19,8 @@ use Rattle.rules.specs.Names.{Name, name_of, name_in}
 use Rattle.rules.specs.Walk.{Walk, naming}
 use Rattle.rules.specs.Node.{bad_value, unresolved, bad_reference, bad_attribute}
 use Rattle.headers.specs.Earlier.{earlier_in}
-use Rattle.values.specs.Answers.{more, ruling_says, tally_says, naming_says, name_field, tally_of}
-use Rattle.values.specs.declared.Ruling.{Ruling}
-use Rattle.values.specs.declared.Ruling.TheVariants as ruling
-use Rattle.values.specs.declared.names.Naming.{Naming}
-use Rattle.values.specs.declared.names.Naming.TheVariants as naming_answer
-use Rattle.values.proofs.NameLaws.{empty_none, empty_some, named_name, named_tally, named_fails, named_passes}
+use Rattle.values.specs.Answers.{more, naming_says, name_field}
+use Rattle.values.proofs.NameLaws.{empty_none, empty_some, named_name, named_fails, named_passes}
 use Rattle.values.proofs.RulingLaws.{ruled_kept, ruled_refused}
 use Rattle.messages.specs.Around.{attributes_of, context}
 use Rattle.messages.specs.Heads.{value_rules, attribute_rules}
@@ -98,12 +96,12 @@ module _ (model : Bytes) (s : Surroundings) (node f : Field) where
   unfolding attribute_rules Asked
   asked w e = ap (λ (o : Judged Walk). o >>= Asked (name_of model Attribute-name (message model f))) e
 
-  module _ {n : Naming} (e : (w : Walk) → naming_says w n ≡ name_field model 22 Attribute-name w (message model f)) (w : Walk) where
-    pub attribute_nameless : {r : Refusal} → n ≡ naming_answer.Refused r → tally_says w (tally_of n) ≡ attribute_rules model s node w f
+  module _ {n : Answer (Field × ℕ)} (e : (w : Walk) → naming_says w n ≡ name_field model 22 Attribute-name w (message model f)) (w : Walk) where
+    pub attribute_nameless : {r : Refusal} → n ≡ Err r → fail r ≡ attribute_rules model s node w f
     unfolding ◌>>=◌
-    attribute_nameless k = named_tally _ _ _ _ _ e w ∙ sym (named_fails _ _ _ _ _ e w k) ∙ asked w (named_fails _ _ _ _ _ e w k)
+    attribute_nameless k = asked w (named_fails _ _ _ _ _ e w k)
 
-    module _ {g : Field} {k : ℕ} (i : n ≡ naming_answer.Named g k) {x : Bytes} (t : x ≡ text model g) {b : Bool}
+    module _ {g : Field} {k : ℕ} (i : n ≡ Ok (g, k)) {x : Bytes} (t : x ≡ text model g) {b : Bool}
         (j : b ≡ member x (earlier_in model Node-attribute Attribute-name node f)) where
       named_by : Asked (record { bytes = x; place = g.place }) (more w k) ≡ attribute_rules model s node w f
       unfolding name_in ◌>>=◌
@@ -117,16 +115,16 @@ module _ (model : Bytes) (s : Surroundings) (node f : Field) where
       attribute_twice h = sym (when_broken 31 g.place _ (sym j ∙ h)) ∙ named_by
 
       -- r is the ruling on its value
-      module _ (h : b ≡ false) (r : Ruling) (ruled : ruling_says r ≡ value_rules model s f) where
+      module _ (h : b ≡ false) (r : Answer (Unit {0})) (ruled : outcome_of r ≡ value_rules model s f) where
         unique : (value_rules model s f >> pass (more w k)) ≡ attribute_rules model s node w f
         unfolding Asked
         unique = sym (when_kept 31 g.place _ (sym j ∙ h)) ∙ named_by
 
-        pub attribute_bad : {x : Refusal} → r ≡ ruling.Refused x → fail x ≡ attribute_rules model s node w f
+        pub attribute_bad : {x : Refusal} → r ≡ Err x → fail x ≡ attribute_rules model s node w f
         unfolding ◌>>◌
         attribute_bad u = ap (λ (o : Rule). o >> pass (more w k)) (sym (ruled_refused ruled u)) ∙ unique
 
-        pub attribute_good : r ≡ ruling.Kept → pass (more w k) ≡ attribute_rules model s node w f
+        pub attribute_good : r ≡ (Ok tt) → pass (more w k) ≡ attribute_rules model s node w f
         unfolding ◌>>◌
         attribute_good u = ap (λ (o : Rule). o >> pass (more w k)) (sym (ruled_kept ruled u)) ∙ unique
 

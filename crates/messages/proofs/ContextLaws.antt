@@ -2,24 +2,18 @@
 use Prim.Native.Nat.{ℕ}
 use mathlib.Core.Path.{◌≡◌, refl, sym, ap, ap₂, ◌∙◌}
 use mathlib.Core.Bool.{Bool, true, false, not, ◌&&◌, ◌||◌, and-true, and-false}
-use mathlib.Core.List.{[]}
+use mathlib.Core.List.{List, []}
 use Rattle.wire.specs.declared.Field.{Field}
 use Rattle.wire.specs.Message.{all_of, message}
-use Rattle.schema.specs.Numbers.{Model-opset_import, Function-attribute, Function-opset_import, Function-attribute_proto, Attribute-name}
+use Rattle.schema.specs.Numbers.{Function-attribute, Function-attribute_proto, Attribute-name}
 use Rattle.varint.specs.Bytes.{Bytes, member}
 use Rattle.headers.specs.Earlier.{before, names_in, texts_in}
 use Rattle.headers.proofs.EarlierLaws.{member_append}
 use Rattle.rules.specs.Graph.{at_ir3, takes_defaults}
-use Rattle.messages.specs.Around.{import_number, attributes_before, attributes_of, context}
+use Rattle.messages.specs.Around.{attributes_before, attributes_of, context}
+use Rattle.messages.specs.declared.contexts.Owner.{Owner}
+use Rattle.messages.specs.declared.contexts.Owner.TheVariants.{Model, Function}
 use Rattle.messages.specs.declared.contexts.Surroundings.{Surroundings}
-
-pub number_function : (s : Surroundings) → s.function ≡ true → Function-opset_import ≡ import_number s
-unfolding import_number
-number_function s e = sym (ap (λ (b : Bool). elim b [ true ↦ Function-opset_import | false ↦ Model-opset_import ]) e)
-
-pub number_model : (s : Surroundings) → s.function ≡ false → Model-opset_import ≡ import_number s
-unfolding import_number
-number_model s e = sym (ap (λ (b : Bool). elim b [ true ↦ Function-opset_import | false ↦ Model-opset_import ]) e)
 
 -- ---- the attributes of a function
 
@@ -41,17 +35,16 @@ module _ (model : Bytes) (f : Field) (first second : ℕ) (x : Bytes) {r : Bool}
   attribute_second k {t} h = ap (λ (b : Bool). b || t) (sym k) ∙ attribute_either model f first second x e h
 
 module _ (model : Bytes) (s : Surroundings) where
-  pub attributes_none : s.function ≡ false → attributes_of model s ≡ []
-  unfolding attributes_of
-  attributes_none e = ap (λ (b : Bool). elim b [ true ↦ attributes_before model s.owner s.owner.next s.owner.next | false ↦ [] ]) e
+  abbrev Attributes : Owner → List Bytes
+  Attributes o = elim o [ Model f ↦ [] | Function f ↦ attributes_before model f f.next f.next ]
 
-  pub resolved_none : (x : Bytes) → s.function ≡ false → false ≡ member x (attributes_of model s)
-  unfolding member
-  resolved_none x e = ap (member x) (sym (attributes_none e))
-
-  pub attributes_all : s.function ≡ true → attributes_of model s ≡ attributes_before model s.owner s.owner.next s.owner.next
+  pub attributes_all : {f : Field} → s.owner ≡ Function f → attributes_of model s ≡ attributes_before model f f.next f.next
   unfolding attributes_of
-  attributes_all e = ap (λ (b : Bool). elim b [ true ↦ attributes_before model s.owner s.owner.next s.owner.next | false ↦ [] ]) e
+  attributes_all e = ap Attributes e
+
+  pub resolved_none : {f : Field} (x : Bytes) → s.owner ≡ Model f → false ≡ member x (attributes_of model s)
+  unfolding member attributes_of
+  resolved_none x e = ap (λ (o : Owner). member x (Attributes o)) (sym e)
 
 module _ (s : Surroundings) (model : Bytes) where
   pub main_takes : s.main ≡ true → true ≡ takes_defaults (context model s)

@@ -1,11 +1,13 @@
 -- What is asked of a node by itself, in the order of the code's tests.
+use Rattle.std.specs.Prelude.{Err, Ok}
+use Rattle.varint.specs.Answers.{Answer}
 use Prim.Native.Nat.{ℕ, ◌+◌, ◌≤◌}
-use mathlib.Core.Path.{◌≡◌, sym, ap, ◌∙◌}
+use mathlib.Core.Path.{◌≡◌, sym, ap, ap₂, ◌∙◌}
 use mathlib.Core.Bool.{Bool, true, false, not}
 use mathlib.Core.List.{List, [], ◌∷◌}
 use mathlib.Core.Option.{Option, none, some}
 use lib.ListN.{length}
-use Rattle.varint.specs.Outcome.{pass, ◌>>=◌, ◌>>◌, Judged, refused, refuse◌at:◌when:◌}
+use Rattle.varint.specs.Outcome.{pass, fail, ◌>>=◌, ◌>>◌, Judged, refused, refuse◌at:◌when:◌}
 use Rattle.wire.specs.declared.Field.{Field}
 use Rattle.varint.specs.Lists.{is_empty}
 use Rattle.varint.specs.Bytes.{Bytes, member}
@@ -24,14 +26,10 @@ use Rattle.rules.proofs.Counting.{grew_name}
 use Rattle.headers.specs.Earlier.{earlier_in}
 use Rattle.headers.specs.Imports.{imports_before}
 use Rattle.headers.proofs.ImportLaws.{imports_all}
-use Rattle.values.specs.Answers.{more, tally_says, naming_says, name_field, tally_of, adding}
-use Rattle.values.specs.declared.names.Naming.{Naming}
-use Rattle.values.specs.declared.names.Naming.TheVariants as naming_answer
-use Rattle.values.specs.declared.tallies.Tally.{Tally}
-use Rattle.values.specs.declared.tallies.Tally.TheVariants as tally
+use Rattle.values.specs.Answers.{more, tally_says, naming_says, name_field, adding}
 use Rattle.values.proofs.TallyLaws.{more_none, tallied, untallied, tally_few, adding_says}
-use Rattle.values.proofs.NameLaws.{empty_none, empty_some, named_fails, named_passes, named_tally}
-use Rattle.messages.specs.Around.{import_number, imports_of}
+use Rattle.values.proofs.NameLaws.{empty_none, empty_some, named_fails, named_passes}
+use Rattle.messages.specs.Around.{field_of, import_number, imports_of}
 use Rattle.messages.specs.Heads.{walk_of, node_head}
 use Rattle.messages.specs.declared.contexts.Surroundings.{Surroundings}
 
@@ -78,12 +76,12 @@ module _ (model : Bytes) (earlier : List Bytes) (m : Field) (w : Walk) where
       stood : {o : Judged Walk} → tested w (record { bytes = x; place = f.place }) ≡ o → walk_of (Stands x f.place o) ≡ Name?
       stood i = ap (λ (o : Judged Walk). walk_of (Stands x f.place o)) (sym i) ∙ by_length (empty_some x h)
 
-      module _ {c : Tally} (e : tally_says w c ≡ tested w (record { bytes = x; place = f.place })) where
-        pub node_misnamed : {r : Refusal} → c ≡ tally.Refused r → tally_says w c ≡ Name?
-        unfolding tally_says Stands walk_of ◌>>=◌
-        node_misnamed i = ap (tally_says w) i ∙ stood (untallied w e i)
+      module _ {c : Answer ℕ} (e : tally_says w c ≡ tested w (record { bytes = x; place = f.place })) where
+        pub node_misnamed : {r : Refusal} → c ≡ Err r → fail r ≡ Name?
+        unfolding Stands walk_of ◌>>=◌
+        node_misnamed i = stood (untallied w e i)
 
-        module _ {n : ℕ} (i : c ≡ tally.Counted n) {v : Bool} (j : v ≡ member x earlier) where
+        module _ {n : ℕ} (i : c ≡ Ok n) {v : Bool} (j : v ≡ member x earlier) where
           new : walk_of (refuse 29 at: f.place when: v >> pass (record { walk = more w n; earlier = x ∷ earlier })) ≡ Name?
           unfolding Stands ◌>>=◌
           new =
@@ -105,15 +103,16 @@ module _ (model : Bytes) (earlier : List Bytes) (m : Field) (w : Walk) where
       tells_bind (λ n. Adds w (odds (bytes_of model Node-name (message model m) ∷ [])) n.walk) _ Any (node_name model earlier w (message model m)) _
       (grew_name model earlier w (message model m)) (λ n a. a.3)
 
-  pub node_name_few : {t : Tally} → tally_says w t ≡ Name? → {k : ℕ} → t ≡ tally.Counted k → k ≤ 1
+  pub node_name_few : {t : Answer ℕ} → tally_says w t ≡ Name? → {k : ℕ} → t ≡ Ok k → k ≤ 1
   node_name_few e i = tally_few w e (bytes_of model Node-name (message model m) ∷ []) _ (λ v a. a) name_tells i
 
 -- ---- what is asked of a node by itself
 
--- n is the number of the fields that hold the imports
-pub imported_by : (model : Bytes) (s : Surroundings) {n : ℕ} → n ≡ import_number s → imports_before model n s.owner s.owner.next ≡ imports_of model s
+-- o is the owner's field, n the number of the fields that hold its imports
+pub imported_by : (model : Bytes) (s : Surroundings) {o : Field} {n : ℕ} → o ≡ field_of s.owner → n ≡ import_number s
+    → imports_before model n o o.next ≡ imports_of model s
 unfolding imports_of
-imported_by model s e = ap (λ (n : ℕ). imports_before model n s.owner s.owner.next) e ∙ imports_all model (import_number s) s.owner
+imported_by model s e k = ap₂ (λ (o : Field) (n : ℕ). imports_before model n o o.next) e k ∙ imports_all model (import_number s) (field_of s.owner)
 
 module _ (model : Bytes) (s : Surroundings) (graph f : Field) where
   abbrev Naming? : Walk → Judged Walk
@@ -124,16 +123,16 @@ module _ (model : Bytes) (s : Surroundings) (graph f : Field) where
     refuse 28 at: place_of Node-domain (message model f) when: not (member (domain (bytes_of model Node-domain (message model f))) (imports_of model s))
     Naming? w
 
-  module _ (n : Naming) (e : (w : Walk) → naming_says w n ≡ name_field model 27 Node-op_type w (message model f)) (w : Walk) where
+  module _ (n : Answer (Field × ℕ)) (e : (w : Walk) → naming_says w n ≡ name_field model 27 Node-op_type w (message model f)) (w : Walk) where
     headed : {o : Judged Walk} → o ≡ naming 27 w (name_of model Node-op_type (message model f)) → (o >>= Imported) ≡ node_head model s graph w f
     unfolding node_head Imported
     headed k = ap (λ (o : Judged Walk). o >>= Imported) k
 
-    pub head_untyped : {x : Refusal} → n ≡ naming_answer.Refused x → tally_says w (tally_of n) ≡ node_head model s graph w f
+    pub head_untyped : {x : Refusal} → n ≡ Err x → fail x ≡ node_head model s graph w f
     unfolding ◌>>=◌
-    head_untyped k = named_tally _ _ _ _ _ e w ∙ sym (named_fails _ _ _ _ _ e w k) ∙ headed (named_fails _ _ _ _ _ e w k)
+    head_untyped k = headed (named_fails _ _ _ _ _ e w k)
 
-    module _ {g : Field} {k : ℕ} (i : n ≡ naming_answer.Named g k) {x : Bytes} (t : x ≡ bytes_of model Node-domain (message model f)) {b : Bool}
+    module _ {g : Field} {k : ℕ} (i : n ≡ Ok (g, k)) {x : Bytes} (t : x ≡ bytes_of model Node-domain (message model f)) {b : Bool}
         (j : b ≡ member (domain x) (imports_of model s)) where
       typed : (refuse 28 at: place_of Node-domain (message model f) when: not b >> Naming? (more w k)) ≡ node_head model s graph w f
       unfolding Imported ◌>>=◌
@@ -145,5 +144,5 @@ module _ (model : Bytes) (s : Surroundings) (graph f : Field) where
       pub head_foreign : b ≡ false → {p : ℕ} → p ≡ place_of Node-domain (message model f) → refused 28 p ≡ node_head model s graph w f
       head_foreign h q = ap (refused 28) q ∙ sym (when_broken 28 _ _ (ap not h)) ∙ typed
 
-      pub head_named : b ≡ true → (t : Tally) → tally_says (more w k) t ≡ Naming? (more w k) → tally_says w (adding k t) ≡ node_head model s graph w f
+      pub head_named : b ≡ true → (t : Answer ℕ) → tally_says (more w k) t ≡ Naming? (more w k) → tally_says w (adding k t) ≡ node_head model s graph w f
       head_named h t l = adding_says w k t ∙ l ∙ sym (when_kept 28 _ _ (ap not h)) ∙ typed

@@ -1,4 +1,5 @@
 // What is asked of an attribute before its graphs are judged.
+ghost use Rattle.varint.specs.Answers.{outcome_of};
 ghost use Rattle.std.specs.Prelude.{◌≡◌};
 ghost use Rattle.varint.specs.Outcome.{refuse◌at:◌when:◌};
 ghost use Rattle.schema.specs.Numbers.{Node-attribute, Attribute-name};
@@ -7,25 +8,24 @@ ghost use Rattle.headers.specs.Earlier.{earlier_in};
 ghost use Rattle.messages.specs.Around.{attributes_of};
 ghost use Rattle.messages.specs.Heads.{value_rules, attribute_rules};
 ghost use Rattle.rules.specs.Walk.{Walk};
-ghost use Rattle.values.specs.Answers.{ruling_says, tally_says};
+ghost use Rattle.values.specs.Answers.{tally_says};
 
 use crate::contexts::Surroundings;
 use crate::references::is_resolved;
 use headers::is_listed;
 use index::Listing;
 use values::numbers::{ATTRIBUTE_NAME, ATTRIBUTE_REF_ATTR_NAME, NODE_ATTRIBUTE};
-use values::{
-    Naming, Ruling, Tally, is_bad_reference, is_bad_value, read_name, refused, tally_of, uncounted,
-};
+use values::{is_bad_reference, is_bad_value, read_name};
+use varint::{Refusal, refused};
 use wire::Field;
 
-fn bad_value(bad: bool, place: usize) -> Ruling
-    ensures { ruling_says result ≡ (refuse 32 at: place when: bad) }
+fn bad_value(bad: bool, place: usize) -> Result<(), Refusal>
+    ensures { outcome_of result ≡ (refuse 32 at: place when: bad) }
 {
     if bad {
-        return refused(Ruling::BAD_VALUE, place);
+        return refused(Refusal::BAD_VALUE, place);
     }
-    Ruling::Kept
+    Ok(())
 }
 
 // "33, 32", of a reference or of a value
@@ -36,16 +36,16 @@ fn value_rules(
     attributes: Listing,
     s: Surroundings,
     a: Field,
-) -> Ruling
+) -> Result<(), Refusal>
     requires { Listed model.now seed lists.now attributes (attributes_of model.now s) }
-    ensures { ruling_says result ≡ value_rules model.now s a }
+    ensures { outcome_of result ≡ value_rules model.now s a }
 {
     let reference = a.bytes_of(model, ATTRIBUTE_REF_ATTR_NAME);
     if reference.len() == 0 {
         return bad_value(is_bad_value(model, a), a.place);
     }
     if !is_resolved(model, lists, seed, attributes, s, reference) {
-        return refused(Ruling::UNRESOLVED_REFERENCE, a.place);
+        return refused(Refusal::UNRESOLVED_REFERENCE, a.place);
     }
     bad_value(is_bad_reference(model, a), a.place)
 }
@@ -60,15 +60,12 @@ pub fn attribute_rules(
     s: Surroundings,
     node: Field,
     a: Field,
-) -> Tally
+) -> Result<u64, Refusal>
     requires listed { Listed model.now seed lists.now attributes (attributes_of model.now s) }
     requires listed_2 { Listed model.now seed lists.now l (earlier_in model.now Node-attribute Attribute-name node a) }
     ensures { (w : Walk) → tally_says w result ≡ attribute_rules model.now s node w a }
 {
-    let naming = read_name(model, a, ATTRIBUTE_NAME, Ruling::NAME_EMPTY);
-    let Naming::Named(name, odd) = naming else {
-        return tally_of(naming);
-    };
+    let (name, odd) = read_name(model, a, ATTRIBUTE_NAME, Refusal::NAME_EMPTY)?;
     if is_listed(
         model,
         lists,
@@ -80,10 +77,8 @@ pub fn attribute_rules(
         a.place,
         name.text(model),
     ) {
-        return uncounted(Ruling::ATTRIBUTE_TWICE, name.place);
+        return refused(Refusal::ATTRIBUTE_TWICE, name.place);
     }
-    match value_rules(model, lists, seed, attributes, s, a) {
-        Ruling::Refused(r) => Tally::Refused(r),
-        Ruling::Kept => Tally::Counted(odd),
-    }
+    value_rules(model, lists, seed, attributes, s, a)?;
+    Ok(odd)
 }

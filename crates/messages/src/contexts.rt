@@ -2,47 +2,65 @@
 ghost use Rattle.std.specs.Prelude.{◌≡◌, not, ◌&&◌};
 ghost use Rattle.varint.specs.Bytes.{Bytes};
 ghost use Rattle.rules.specs.Graph.{at_ir3, takes_defaults};
-ghost use Rattle.messages.specs.Around.{inside, import_number, context};
+ghost use Rattle.messages.specs.Around.{field_of, inside, import_number, context};
 
 use values::numbers::{FUNCTION_OPSET_IMPORT, GRAPH_NODE, MODEL_OPSET_IMPORT};
 use wire::Field;
 
-// Whether it is the main graph; its model's IR version; the number of the fields that hold its nodes; whose imports serve, the model's or a function's; and
-// whether that is a function, whose attributes a reference may name.
+// Whose imports serve: the model's, or those of a function, whose attributes a reference may name.
+#[derive(Clone, Copy)]
+pub enum Owner {
+    Model(Field),
+    Function(Field),
+}
+
+impl Owner {
+    #[tactic(auto, unfolding(crate::specs::Around::field_of))]
+    pub fn field(self) -> Field
+        ensures { result ≡ field_of self }
+    {
+        match self {
+            Owner::Model(f) => f,
+            Owner::Function(f) => f,
+        }
+    }
+}
+
+// Whether it is the main graph; its model's IR version; the number of the fields that hold its nodes; and whose imports serve.
 #[derive(Clone, Copy)]
 pub struct Surroundings {
     pub main: bool,
     pub version: u64,
     pub nodes: u64,
-    pub owner: Field,
-    pub function: bool,
+    pub owner: Owner,
 }
 
 impl Surroundings {
     // Of a graph inside this one.
+    #[tactic(auto, unfolding(crate::specs::Around::inside))]
     pub fn nested(self) -> Surroundings
         ensures { result ≡ inside self }
     {
-        let owner = self.owner;
         Surroundings {
             main: false,
             version: self.version,
             nodes: GRAPH_NODE,
-            owner: owner,
-            function: self.function,
+            owner: self.owner,
         }
     }
 
     // The number of the owner's fields that hold its imports.
+    #[tactic(auto, unfolding(crate::specs::Around::import_number))]
     pub fn import_number(self) -> u64
         ensures { result ≡ import_number self }
     {
-        if self.function {
-            return FUNCTION_OPSET_IMPORT;
+        match self.owner {
+            Owner::Model(_) => MODEL_OPSET_IMPORT,
+            Owner::Function(_) => FUNCTION_OPSET_IMPORT,
         }
-        MODEL_OPSET_IMPORT
     }
 
+    #[tactic(auto, unfolding(rules::specs::Graph::at_ir3, crate::specs::Around::context))]
     fn at_ir_3(self) -> bool
         ensures { (model : Bytes) → result ≡ at_ir3 (context model self) }
     {

@@ -7,6 +7,6 @@ mod nodes;
 mod references;
 
 pub use attributes::attribute_rules;
-pub use contexts::Surroundings;
+pub use contexts::{Owner, Surroundings};
 pub use nodes::node_head;
 pub use references::is_attribute;

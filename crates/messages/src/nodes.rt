@@ -15,8 +15,9 @@ use crate::contexts::Surroundings;
 use headers::{Imports, is_imported, is_listed};
 use index::Listing;
 use values::numbers::{NODE_DOMAIN, NODE_NAME, NODE_OP_TYPE};
-use values::{Naming, Ruling, Tally, adding, read_name, tally_of, tested, uncounted};
-use wire::{Field, Sought};
+use values::{adding, read_name, tested};
+use varint::{Refusal, refused};
+use wire::Field;
 
 // "a nonempty node name (21, 29)"
 fn node_name(
@@ -27,27 +28,24 @@ fn node_name(
     number: u64,
     graph: Field,
     node: Field,
-) -> Tally
+) -> Result<u64, Refusal>
     requires { Listed model.now seed lists.now l (earlier_in model.now number Node-name graph node) }
     ensures { (w : Walk) → tally_says w result ≡ walk_of (node_name model.now (earlier_in model.now number Node-name graph node) w (message model.now node)) }
 {
-    let Sought::Found(name, _) = node.first_of(model, NODE_NAME) else {
-        return Tally::Counted(0);
+    let Some((name, _)) = node.first_of(model, NODE_NAME) else {
+        return Ok(0);
     };
     let text = name.text(model);
     if text.len() == 0 {
-        return Tally::Counted(0);
+        return Ok(0);
     }
-    let tally = tested(text, name.place);
-    let Tally::Counted(odd) = tally else {
-        return tally;
-    };
+    let odd = tested(text, name.place)?;
     if is_listed(
         model, lists, seed, l, graph, number, NODE_NAME, node.place, text,
     ) {
-        return uncounted(Ruling::NODE_NAME_TWICE, name.place);
+        return refused(Refusal::NODE_NAME_TWICE, name.place);
     }
-    Tally::Counted(odd)
+    Ok(odd)
 }
 
 // "op_type (27, 21); 28; a nonempty node name (21, 29)"
@@ -60,26 +58,24 @@ pub fn node_head(
     s: Surroundings,
     graph: Field,
     f: Field,
-) -> Tally
+) -> Result<u64, Refusal>
     requires imported { Imported model.now seed lists.now imports (imports_of model.now s) }
     requires listed { Listed model.now seed lists.now l (earlier_in model.now s.nodes Node-name graph f) }
     ensures { (w : Walk) → tally_says w result ≡ node_head model.now s graph w f }
 {
-    let naming = read_name(model, f, NODE_OP_TYPE, Ruling::OP_TYPE_EMPTY);
-    let Naming::Named(_, odd) = naming else {
-        return tally_of(naming);
-    };
+    let (_, odd) = read_name(model, f, NODE_OP_TYPE, Refusal::OP_TYPE_EMPTY)?;
+    let owner = s.owner.field();
     if !is_imported(
         model,
         lists,
         seed,
         imports,
-        s.owner,
+        owner,
         s.import_number(),
-        s.owner.next,
+        owner.next,
         f.bytes_of(model, NODE_DOMAIN),
     ) {
-        return uncounted(Ruling::NOT_IMPORTED, f.place_of(model, NODE_DOMAIN));
+        return refused(Refusal::NOT_IMPORTED, f.place_of(model, NODE_DOMAIN));
     }
     adding(odd, node_name(model, lists, seed, l, s.nodes, graph, f))
 }

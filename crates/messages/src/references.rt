@@ -5,7 +5,7 @@ ghost use Rattle.varint.specs.Bytes.{member};
 ghost use Rattle.index.specs.Listing.{Listed};
 ghost use Rattle.messages.specs.Around.{attributes_before, attributes_of};
 
-use crate::contexts::Surroundings;
+use crate::contexts::{Owner, Surroundings};
 use headers::{is_earlier, is_earlier_field};
 use index::Listing;
 use values::numbers::{ATTRIBUTE_NAME, FUNCTION_ATTRIBUTE, FUNCTION_ATTRIBUTE_PROTO};
@@ -55,9 +55,8 @@ pub(crate) fn is_resolved(
     requires name_value { is_empty name.now ≡ false }
     ensures { result ≡ member name.now (attributes_of model.now s) }
 {
-    let f = s.owner;
-    if !s.function {
+    let Owner::Function(f) = s.owner else {
         return false;
-    }
+    };
     is_attribute(model, lists, seed, l, f, f.next, f.next, name)
 }

@@ -1,4 +1,6 @@
 -- A node after its attributes: outputs, and the count.
+use Rattle.std.specs.Prelude.{Err, Ok}
+use Rattle.varint.specs.Answers.{Answer}
 use Prim.Native.Nat.{ℕ, ◌+◌, ◌≤◌}
 use native.Mathlib.Omega.{arith}
 use mathlib.Core.Path.{◌≡◌, sym, ap, ◌∙◌}
@@ -23,8 +25,6 @@ use Rattle.rules.specs.Node.{node_output}
 use Rattle.scope.specs.Scope.{walk_in, step_says}
 use Rattle.messages.specs.Again.{field_names, closing}
 use Rattle.scope.specs.declared.scopes.Progress.{Progress}
-use Rattle.scope.specs.declared.scopes.Step.{Step}
-use Rattle.scope.specs.declared.scopes.Step.TheVariants as step
 use Rattle.rules.proofs.Counting.{Grew, names_each, grew_node_output}
 use Rattle.rules.proofs.NamesFew.{odds_few}
 
@@ -55,17 +55,17 @@ module _ (model : Bytes) (full : ℕ → Bool) (w : Walk) (f : Field) where
     unfolding closing Counted
     closing_none h = sym (when_broken 34 f.place (Counted Outputs) (lacks ∙ ap not h))
 
-    module _ (h : b ≡ true) (later : List ℕ) (s : Step) (put : step_says model later s ≡ Outputs) where
+    module _ (h : b ≡ true) (later : List ℕ) (s : Answer Progress) (put : step_says model later s ≡ Outputs) where
       closing_by : Counted Outputs ≡ closing model full w f
       unfolding closing Counted
       closing_by = sym (when_kept 34 f.place (Counted Outputs) (lacks ∙ ap not h))
 
-      pub closing_stops : {x : Refusal} → s ≡ step.Refused x → step_says model later s ≡ closing model full w f
+      pub closing_stops : {x : Refusal} → s ≡ Err x → step_says model later s ≡ closing model full w f
       unfolding step_says Counted ◌>>=◌
       closing_stops k = ap (step_says model later) k ∙ ap Counted (says (step_says model later) put k) ∙ closing_by
 
-      module _ {q : Progress} (k : s ≡ step.Went q) where
-        pub closing_went : step_says model later (step.Went (record { used = q.used; nodes = q.nodes + 1; most = q.most; odd = q.odd })) ≡ closing model full w f
+      module _ {q : Progress} (k : s ≡ Ok q) where
+        pub closing_went : step_says model later (Ok (record { used = q.used; nodes = q.nodes + 1; most = q.most; odd = q.odd })) ≡ closing model full w f
         unfolding step_says Counted walk_in with_node ◌>>=◌
         closing_went = ap Counted (says (step_says model later) put k) ∙ closing_by
 

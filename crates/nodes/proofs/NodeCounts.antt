@@ -1,4 +1,6 @@
 -- What is counted of a node before its attributes: the odd ones among its names. The tests leave the rest of a walk as it was.
+use Rattle.std.specs.Prelude.{Ok, Some}
+use Rattle.varint.specs.Answers.{Answer}
 use Prim.Native.Nat.{ℕ, ◌+◌, ◌≤◌, ◌<◌, ◌^◌}
 use native.Mathlib.Omega.{arith}
 use mathlib.Core.Path.{◌≡◌, refl, ap, ◌∙◌}
@@ -9,9 +11,7 @@ use Rattle.varint.specs.Lists.{is_empty}
 use Rattle.varint.specs.Bytes.{Bytes}
 use Rattle.wire.specs.declared.Field.{Field}
 use Rattle.wire.specs.declared.Cursor.{Cursor}
-use Rattle.wire.specs.declared.Sought.{Sought}
-use Rattle.wire.specs.declared.Sought.TheVariants as sought
-use Rattle.wire.specs.Answers.{contents_of, sought_says, sought_in}
+use Rattle.wire.specs.Answers.{contents_of, sought_says, sought_in, Sought}
 use Rattle.wire.specs.Message.{all_of, text, bytes_of, message}
 use Rattle.wire.proofs.Along.{all_from}
 use Rattle.varint.proofs.Tells.{Tells, Any, any_all, tells_bind, tells_if, tells_weaken}
@@ -25,8 +25,6 @@ use Rattle.rules.proofs.Counting.{past, grew_name}
 use Rattle.rules.proofs.NamesFew.{odds_few, from_few}
 use Rattle.headers.specs.Earlier.{earlier_in}
 use Rattle.values.specs.Answers.{tally_says}
-use Rattle.values.specs.declared.tallies.Tally.{Tally}
-use Rattle.values.specs.declared.tallies.Tally.TheVariants as tally
 use Rattle.values.proofs.TallyLaws.{tally_most, tally_few, Tallying, tallying_fits}
 use Rattle.messages.specs.Heads.{walk_of, value_rules, attribute_rules, node_head}
 use Rattle.messages.specs.Again.{field_names, node_rules}
@@ -40,7 +38,7 @@ contents_fields s number m e = rw e refl
 -- a loop that counts, where there is room in 64 bits to count every name
 module _ {s : Bytes} {number end start : ℕ} {Q : Walk → Type 0} {names : Field → List Bytes} {step : Walk → Field → Judged Walk} {odd : ℕ} {c : Cursor}
     (q : Tallying s number end start Q names step odd c) {a : Sought} (read : sought_says a ≡ sought_in s number c.end c.at)
-    {f : Field} {next : Cursor} (e : a ≡ sought.Found f next) (m : Field) (at : record { at = start; end = end } ≡ contents_of m)
+    {f : Field} {next : Cursor} (e : a ≡ Some (f, next)) (m : Field) (at : record { at = start; end = end } ≡ contents_of m)
     (room : length (flat_map names (all_of number (message s m))) < 2 ^ 64) where
   pub tallying_sum : {k : ℕ} → k ≤ length (names f) → odd + k < 2 ^ 64
   tallying_sum h =
@@ -96,7 +94,8 @@ module _ (model : Bytes) where
         tells_weaken (Adds t (odds Inputs)) R Any Any (each (node_input model) t (all_of Node-input (message model f)))
         (λ v i. (i.0 ∙ h.0, i.1 ∙ h.1, i.2 ∙ h.2, omega arith)) (λ r _. tt) (adds_inputs t (all_of Node-input (message model f))))
 
-    pub rules_odd : Tells (λ v. v.odd ≤ w.odd + (2 + length (flat_map (field_names model) (all_of Node-input (message model f))))) Any (node_rules model s graph w f)
+    pub rules_odd : Tells (λ v. v.odd ≤ w.odd + (2 + length (flat_map (field_names model) (all_of Node-input (message model f))))) Any
+        (node_rules model s graph w f)
     rules_odd =
         let few = odds_few Inputs in
         let two = odds_few (head_names f) in
@@ -114,28 +113,30 @@ module _ (model : Bytes) where
 
   -- ---- by the tallies
 
-  pub input_few : (scope : List Name) (f : Field) {t : Tally} → ((w : Walk) → w.scope ≡ scope → tally_says w t ≡ node_input model w f)
-      → {k : ℕ} → t ≡ tally.Counted k → k ≤ length (field_names model f)
+  pub input_few : (scope : List Name) (f : Field) {t : Answer ℕ} → ((w : Walk) → w.scope ≡ scope → tally_says w t ≡ node_input model w f)
+      → {k : ℕ} → t ≡ Ok k → k ≤ length (field_names model f)
   input_few scope f e i =
       let w = seeing scope in
       tally_few w (e w refl) (field_names model f) (Adds w (odds (field_names model f))) (λ v a. a.3) (adds_input w f) i
 
-  pub head_few : (s : Surroundings) (graph f : Field) {t : Tally} → ((w : Walk) → tally_says w t ≡ node_head model s graph w f) → {k : ℕ} → t ≡ tally.Counted k → k ≤ 2
+  pub head_few : (s : Surroundings) (graph f : Field) {t : Answer ℕ} → ((w : Walk) → tally_says w t ≡ node_head model s graph w f) → {k : ℕ} → t ≡ Ok k → k ≤ 2
   head_few s graph f e i = tally_few start (e start) (head_names f) (Adds start (odds (head_names f))) (λ v a. a.3) (adds_head s graph start f) i
 
-  pub inputs_most : (scope : List Name) (f : Field) {t : Tally}
+  pub inputs_most : (scope : List Name) (f : Field) {t : Answer ℕ}
       → ((w : Walk) → w.scope ≡ scope → tally_says w t ≡ each (node_input model) w (all_of Node-input (message model f)))
-      → {k : ℕ} → t ≡ tally.Counted k → k ≤ length (flat_map (field_names model) (all_of Node-input (message model f)))
+      → {k : ℕ} → t ≡ Ok k → k ≤ length (flat_map (field_names model) (all_of Node-input (message model f)))
   inputs_most scope f e i =
       let w = seeing scope in
       let l = all_of Node-input (message model f) in
       tally_few w (e w refl) (flat_map (field_names model) l) (Adds w (odds (flat_map (field_names model) l))) (λ v a. a.3) (adds_inputs w l) i
 
-  pub rules_few : (s : Surroundings) (graph f : Field) (scope : List Name) {t : Tally} → ((w : Walk) → w.scope ≡ scope → tally_says w t ≡ node_rules model s graph w f)
-      → {k : ℕ} → t ≡ tally.Counted k → k ≤ 2 + length (flat_map (field_names model) (all_of Node-input (message model f)))
+  pub rules_few : (s : Surroundings) (graph f : Field) (scope : List Name) {t : Answer ℕ}
+      → ((w : Walk) → w.scope ≡ scope → tally_says w t ≡ node_rules model s graph w f)
+      → {k : ℕ} → t ≡ Ok k → k ≤ 2 + length (flat_map (field_names model) (all_of Node-input (message model f)))
   rules_few s graph f scope e i = tally_most (seeing scope) (e (seeing scope) refl) _ (rules_odd s graph (seeing scope) f) i
 
-  pub attribute_few : (s : Surroundings) (node f : Field) {t : Tally} → ((w : Walk) → tally_says w t ≡ attribute_rules model s node w f) → {k : ℕ} → t ≡ tally.Counted k → k ≤ 1
+  pub attribute_few : (s : Surroundings) (node f : Field) {t : Answer ℕ} → ((w : Walk) → tally_says w t ≡ attribute_rules model s node w f)
+      → {k : ℕ} → t ≡ Ok k → k ≤ 1
   attribute_few s node f e i =
       let names = bytes_of model Attribute-name (message model f) ∷ [] in
       tally_few start (e start) names (Adds start (odds names)) (λ v a. a.3) (attribute_adds s node start f) i

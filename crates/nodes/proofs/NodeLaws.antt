@@ -1,4 +1,6 @@
 -- What is asked of a node beside its attributes, in the order of the code's tests.
+use Rattle.std.specs.Prelude.{Err, Ok}
+use Rattle.varint.specs.Answers.{Answer}
 use Prim.Native.Nat.{ℕ}
 use mathlib.Core.Path.{◌≡◌, sym, ap, ◌∙◌}
 use mathlib.Core.Bool.{Bool, true, false, not}
@@ -16,8 +18,6 @@ use Rattle.rules.specs.Names.{Name, name_in}
 use Rattle.rules.specs.Walk.{Walk, visible, tested}
 use Rattle.rules.specs.Node.{node_input}
 use Rattle.values.specs.Answers.{more, tally_says, adding}
-use Rattle.values.specs.declared.tallies.Tally.{Tally}
-use Rattle.values.specs.declared.tallies.Tally.TheVariants as tally
 use Rattle.values.proofs.TallyLaws.{more_none, tallied, untallied, adding_says}
 use Rattle.values.proofs.NameLaws.{empty_none, empty_some}
 use Rattle.messages.specs.Heads.{node_head}
@@ -43,12 +43,12 @@ module _ (model : Bytes) (w : Walk) (f : Field) {x : Bytes} (t : x ≡ text mode
         ap (λ (o : Judged Walk). o >>= Read) (sym k ∙ ap (λ (y : Bytes). tested w (record { bytes = y; place = f.place })) t)
         ∙ sym (input_by (empty_some x h))
 
-    module _ {c : Tally} (e : tally_says w c ≡ tested w (record { bytes = x; place = f.place })) where
-      pub input_bad : {r : Refusal} → c ≡ tally.Refused r → tally_says w c ≡ node_input model w f
+    module _ {c : Answer ℕ} (e : tally_says w c ≡ tested w (record { bytes = x; place = f.place })) where
+      pub input_bad : {r : Refusal} → c ≡ Err r → tally_says w c ≡ node_input model w f
       unfolding tally_says ◌>>=◌
       input_bad i = ap (tally_says w) i ∙ input_some (untallied w e i)
 
-      module _ {k : ℕ} (i : c ≡ tally.Counted k) {scope : List Name} (s : w.scope ≡ scope) {v : Bool} (j : v ≡ visible x scope) where
+      module _ {k : ℕ} (i : c ≡ Ok k) {scope : List Name} (s : w.scope ≡ scope) {v : Bool} (j : v ≡ visible x scope) where
         read : (refuse 30 at: f.place when: not v >> pass (more w k)) ≡ node_input model w f
         unfolding Read more ◌>>=◌
         read =
@@ -71,12 +71,12 @@ module _ (model : Bytes) (s : Surroundings) (graph f : Field) (w : Walk) where
   unfolding node_rules
   rules_by k = ap (λ (o : Judged Walk). o >>= Inputs) (sym k)
 
-  module _ {r : Tally} (e : tally_says w r ≡ node_head model s graph w f) where
-    pub rules_headed : {x : Refusal} → r ≡ tally.Refused x → tally_says w r ≡ node_rules model s graph w f
+  module _ {r : Answer ℕ} (e : tally_says w r ≡ node_head model s graph w f) where
+    pub rules_headed : {x : Refusal} → r ≡ Err x → tally_says w r ≡ node_rules model s graph w f
     unfolding tally_says ◌>>=◌
     rules_headed k = ap (tally_says w) k ∙ rules_by (untallied w e k)
 
-    pub rules_inputs : {k : ℕ} → r ≡ tally.Counted k → (t : Tally) → tally_says (more w k) t ≡ Inputs (more w k)
+    pub rules_inputs : {k : ℕ} → r ≡ Ok k → (t : Answer ℕ) → tally_says (more w k) t ≡ Inputs (more w k)
         → tally_says w (adding k t) ≡ node_rules model s graph w f
     unfolding ◌>>=◌
     rules_inputs {k} i t l = adding_says w k t ∙ l ∙ rules_by (tallied w e i)

@@ -1,4 +1,6 @@
 -- Outputs in the order of the code's tests.
+use Rattle.std.specs.Prelude.{Err, Ok}
+use Rattle.varint.specs.Answers.{Answer}
 use Prim.Native.Nat.{ℕ, ◌+◌, ◌≤◌, ◌<◌, ◌^◌}
 use native.Mathlib.Omega.{arith}
 use mathlib.Core.Path.{◌≡◌, refl, sym, ap, ◌∙◌}
@@ -25,15 +27,10 @@ use Rattle.rules.proofs.Rules.{Adds}
 use Rattle.rules.proofs.Counting.{Grew, names_each, typed, grew_type, grew_node_output, grew_output}
 use Rattle.rules.proofs.NamesFew.{odds_few}
 use Rattle.values.specs.Answers.{more, tally_says, naming_says, name_field, adding, Addable}
-use Rattle.values.specs.declared.tallies.Tally.{Tally}
-use Rattle.values.specs.declared.tallies.Tally.TheVariants as tally
-use Rattle.values.specs.declared.names.Naming.{Naming}
-use Rattle.values.specs.declared.names.Naming.TheVariants as naming_answer
 use Rattle.values.proofs.TallyLaws.{tallied, untallied, tally_few, adding_says, addable}
 use Rattle.values.proofs.NameLaws.{empty_none, empty_some, named_name, named_passes, named_fails}
 use Rattle.scope.specs.Scope.{walk_in, step_says, with_odd}
 use Rattle.scope.specs.declared.scopes.Progress.{Progress}
-use Rattle.scope.specs.declared.scopes.Step.{Step}
 use Rattle.scope.proofs.StepLaws.{plain, Counts, odd_walk}
 use Rattle.messages.specs.Again.{field_names}
 use Rattle.nodes.proofs.NodeCounts.{seeing}
@@ -57,17 +54,18 @@ module _ (model : Bytes) (full : ℕ → Bool) (w : Walk) (f : Field) {x : Bytes
         ap (λ (o : Judged Walk). o >>= Named) (sym k ∙ ap (λ (y : Bytes). tested w (record { bytes = y; place = f.place })) t)
         ∙ sym (output_by (empty_some x h))
 
-    module _ {c : Tally} (e : tally_says w c ≡ tested w (record { bytes = x; place = f.place })) where
-      pub output_bad : {r : Refusal} → c ≡ tally.Refused r → fail r ≡ node_output model full w f
+    module _ {c : Answer ℕ} (e : tally_says w c ≡ tested w (record { bytes = x; place = f.place })) where
+      pub output_bad : {r : Refusal} → c ≡ Err r → fail r ≡ node_output model full w f
       unfolding ◌>>=◌
       output_bad i = output_some (untallied w e i)
 
-      pub output_new : {k : ℕ} → c ≡ tally.Counted k → define full (more w k) (name_in model f) ≡ node_output model full w f
+      pub output_new : {k : ℕ} → c ≡ Ok k → define full (more w k) (name_in model f) ≡ node_output model full w f
       unfolding Named ◌>>=◌
       output_new i = output_some (tallied w e i)
 
 -- the step of a name that was counted if it is odd
-pub odd_says : (p : Progress) {q : Progress} (k : ℕ) → q ≡ with_odd p k → (model : Bytes) (cells later : List ℕ) (s : Step) (full : ℕ → Bool) (x : Name)
+pub odd_says : (p : Progress) {q : Progress} (k : ℕ) → q ≡ with_odd p k
+    → (model : Bytes) (cells later : List ℕ) (s : Answer Progress) (full : ℕ → Bool) (x : Name)
     → step_says model later s ≡ define full (walk_in model cells q) x → step_says model later s ≡ define full (more (walk_in model cells p) k) x
 odd_says p k e model cells later s full x h = h ∙ ap (λ (w : Walk). define full w x) (odd_walk p k e model cells)
 
@@ -98,12 +96,12 @@ module _ (model : Bytes) (k : Context) (w : Walk) (f : Field) where
   unfolding output Seen
   listed_by e = ap (λ (o : Judged Walk). o >>= Seen (name_of model ValueInfo-name (message model f))) e
 
-  module _ (n : Naming) (named : (w : Walk) → naming_says w n ≡ name_field model 22 ValueInfo-name w (message model f)) where
-    pub listed_unnamed : {x : Refusal} → n ≡ naming_answer.Refused x → fail x ≡ output model k w f
+  module _ (n : Answer (Field × ℕ)) (named : (w : Walk) → naming_says w n ≡ name_field model 22 ValueInfo-name w (message model f)) where
+    pub listed_unnamed : {x : Refusal} → n ≡ Err x → fail x ≡ output model k w f
     unfolding ◌>>=◌
     listed_unnamed e = listed_by (named_fails _ _ _ _ _ named w e)
 
-    module _ {g : Field} {j : ℕ} (e : n ≡ naming_answer.Named g j) {x : Bytes} (t : x ≡ text model g) {scope : List Name} (s : w.scope ≡ scope)
+    module _ {g : Field} {j : ℕ} (e : n ≡ Ok (g, j)) {x : Bytes} (t : x ≡ text model g) {scope : List Name} (s : w.scope ≡ scope)
         {v : Bool} (i : v ≡ visible x scope) where
       listed : (refuse 35 at: g.place when: not v >> Declared (more w j)) ≡ output model k w f
       unfolding name_in Seen more ◌>>=◌
@@ -116,11 +114,11 @@ module _ (model : Bytes) (k : Context) (w : Walk) (f : Field) where
       pub listed_hidden : v ≡ false → refused 35 g.place ≡ output model k w f
       listed_hidden h = sym (when_broken 35 g.place _ (ap not h)) ∙ listed
 
-      pub listed_visible : v ≡ true → (t : Tally) → tally_says (more w j) t ≡ Declared (more w j) → tally_says w (adding j t) ≡ output model k w f
+      pub listed_visible : v ≡ true → (t : Answer ℕ) → tally_says (more w j) t ≡ Declared (more w j) → tally_says w (adding j t) ≡ output model k w f
       listed_visible h t l = adding_says w j t ∙ l ∙ sym (when_kept 35 g.place _ (ap not h)) ∙ listed
 
 -- it counts no more than its names: the first, and those of its type
-module _ (model : Bytes) (main : Bool) (f : Field) (t : Tally) where
+module _ (model : Bytes) (main : Bool) (f : Field) (t : Answer ℕ) where
   pub listed_fits : ((k : Context) (w : Walk) → k.main ≡ main → tally_says w t ≡ in_main k (declared_type model (message model f)) w)
       → {j : ℕ} → j ≤ 1 → length (value_names model main f) < 2 ^ 64 → Addable j t
   unfolding value_names
@@ -130,7 +128,7 @@ module _ (model : Bytes) (main : Bool) (f : Field) (t : Tally) where
       (grew_type model (plain main) (message model f) start) i) (omega arith)
 
   pub listed_few : (scope : List Name) → ((k : Context) (w : Walk) → k.main ≡ main → w.scope ≡ scope → tally_says w t ≡ output model k w f)
-      → {j : ℕ} → t ≡ tally.Counted j → j ≤ length (value_names model main f)
+      → {j : ℕ} → t ≡ Ok j → j ≤ length (value_names model main f)
   listed_few scope e i =
       let w = seeing scope in
       tally_few w (e (plain main) w refl refl) (value_names model main f) (Grew w 0 (odds (value_names model main f))) (λ v a. a.1)
@@ -148,8 +146,8 @@ module _ (model : Bytes) (k : Context) (l : List Field) where
       tells_weaken (Grew w 0 (odds names)) (λ v. v.odd ≤ w.odd + length names) Any Any (each (output model k) w l)
       (λ v a. let e = a.1 in omega arith) (λ r _. tt) (outputs_grew w)
 
-  pub outputs_few : (scope : List Name) {t : Tally} → ((w : Walk) → w.scope ≡ scope → tally_says w t ≡ each (output model k) w l)
-      → {j : ℕ} → t ≡ tally.Counted j → j ≤ length (flat_map (value_names model k.main) l)
+  pub outputs_few : (scope : List Name) {t : Answer ℕ} → ((w : Walk) → w.scope ≡ scope → tally_says w t ≡ each (output model k) w l)
+      → {j : ℕ} → t ≡ Ok j → j ≤ length (flat_map (value_names model k.main) l)
   outputs_few scope e i =
       let w = seeing scope in
       let names = flat_map (value_names model k.main) l in

@@ -23,28 +23,33 @@ use crate::outputs::node_outputs;
 use headers::has;
 use index::Listing;
 use messages::{Surroundings, attribute_rules, node_head};
-use scope::{Index, Progress, Step, sees, stopped};
+use scope::{Index, Progress, sees};
 use values::numbers::{NODE_INPUT, NODE_OUTPUT};
-use values::{Ruling, Tally, adding, tested, uncounted};
-use wire::{Field, Sought};
+use values::{adding, tested};
+use varint::{Refusal, refused};
+use wire::Field;
 
 // "An empty input or output means "left out" and is passed over. Input: 21, 30."
-fn node_input(model: &[u8], cells: &[u32], extra: &[u32], ix: Index, used: usize, f: Field) -> Tally
+fn node_input(
+    model: &[u8],
+    cells: &[u32],
+    extra: &[u32],
+    ix: Index,
+    used: usize,
+    f: Field,
+) -> Result<u64, Refusal>
     requires { Recalling model.now ix cells.now extra.now }
     ensures { (w : Walk) → w.scope ≡ scope_in model.now cells.now used → tally_says w result ≡ node_input model.now w f }
 {
     let text = f.text(model);
     if text.len() == 0 {
-        return Tally::Counted(0);
+        return Ok(0);
     }
-    let tally = tested(text, f.place);
-    let Tally::Counted(one) = tally else {
-        return tally;
-    };
+    let one = tested(text, f.place)?;
     if sees(model, cells, extra, ix, used, text) {
-        return Tally::Counted(one);
+        return Ok(one);
     }
-    uncounted(Ruling::INPUT_NOT_VISIBLE, f.place)
+    refused(Refusal::INPUT_NOT_VISIBLE, f.place)
 }
 
 fn node_inputs(
@@ -54,24 +59,18 @@ fn node_inputs(
     ix: Index,
     used: usize,
     node: Field,
-) -> Tally
+) -> Result<u64, Refusal>
     requires { Recalling model.now ix cells.now extra.now }
     ensures { (w : Walk) → w.scope ≡ scope_in model.now cells.now used → tally_says w result ≡ each (node_input model.now) w (all_of Node-input (message model.now node)) }
 {
     let mut c = node.contents();
     let mut odd = 0;
-    loop {
-        let sought = c.next_of(model, NODE_INPUT);
-        let Sought::Found(f, next) = sought else {
-            return Tally::Counted(odd);
-        };
-        let tally = node_input(model, cells, extra, ix, used, f);
-        let Tally::Counted(more) = tally else {
-            return tally;
-        };
+    while let Some((f, next)) = c.next_of(model, NODE_INPUT) {
+        let more = node_input(model, cells, extra, ix, used, f)?;
         odd += more;
         c = next;
     }
+    Ok(odd)
 }
 
 // "op_type (27, 21); 28; a nonempty node name (21, 29)", with what the extra cells hold of imports and names.
@@ -83,7 +82,7 @@ fn head(
     s: Surroundings,
     graph: Field,
     f: Field,
-) -> Tally
+) -> Result<u64, Refusal>
     requires split_in_bounds { ix.split ≤ length extra.now }
     requires imported { Imported model.now ix.seed (drop ix.split extra.now) ix.imports (imports_of model.now s) }
     requires listed { Listed model.now ix.seed (drop ix.split extra.now) l (earlier_in model.now s.nodes Node-name graph f) }
@@ -105,17 +104,14 @@ pub fn node_rules(
     s: Surroundings,
     graph: Field,
     f: Field,
-) -> Tally
+) -> Result<u64, Refusal>
     requires recalling { Recalling model.now ix cells.now extra.now }
     requires imported { Imported model.now ix.seed (drop ix.split extra.now) ix.imports (imports_of model.now s) }
     requires listed { Listed model.now ix.seed (drop ix.split extra.now) l (earlier_in model.now s.nodes Node-name graph f) }
     requires f_bound { 2 + length (flat_map (field_names model.now) (all_of Node-input (message model.now f))) < 2 ^ 64 }
     ensures { (w : Walk) → w.scope ≡ scope_in model.now cells.now used → tally_says w result ≡ node_rules model.now s graph w f }
 {
-    let tally = head(model, extra, ix, l, s, graph, f);
-    let Tally::Counted(odd) = tally else {
-        return tally;
-    };
+    let odd = head(model, extra, ix, l, s, graph, f)?;
     adding(odd, node_inputs(model, cells, extra, ix, used, f))
 }
 
@@ -128,7 +124,7 @@ pub fn attribute_head(
     s: Surroundings,
     node: Field,
     a: Field,
-) -> Tally
+) -> Result<u64, Refusal>
     requires split_in_bounds { ix.split ≤ length extra.now }
     requires listed { Listed model.now ix.seed (drop ix.split extra.now) ix.attributes (attributes_of model.now s) }
     requires listed_2 { Listed model.now ix.seed (drop ix.split extra.now) l (earlier_in model.now Node-attribute Attribute-name node a) }
@@ -147,7 +143,7 @@ pub fn closing(
     ix: Index,
     p: Progress,
     f: Field,
-) -> Step
+) -> Result<Progress, Refusal>
     requires model_len_bound { length model.now < 2 ^ 32 }
     requires walked { Walked model.now Node f }
     requires nodes_bound { p.nodes ≤ 2 ^ 33 }
@@ -159,13 +155,10 @@ pub fn closing(
     ensures memory { Recalled model.now ix cells.new extra.old extra.new }
 {
     if !has(model, f, NODE_OUTPUT) {
-        return stopped(Ruling::NO_OUTPUT, f.place);
+        return refused(Refusal::NO_OUTPUT, f.place);
     }
-    let step = node_outputs(model, cells, extra, ix, p, f);
-    let Step::Went(q) = step else {
-        return step;
-    };
-    Step::Went(Progress {
+    let q = node_outputs(model, cells, extra, ix, p, f)?;
+    Ok(Progress {
         used: q.used,
         nodes: q.nodes + 1,
         most: q.most,

@@ -16,10 +16,11 @@ ghost use Rattle.scope.specs.Recall.{Recalling, Recalled};
 ghost use Rattle.values.specs.Answers.{tally_says};
 ghost use Rattle.messages.specs.Again.{field_names};
 
-use scope::{Index, Progress, Step, define, sees, with_odd};
+use scope::{Index, Progress, define, sees, with_odd};
 use values::numbers::{GRAPH_OUTPUT, NODE_OUTPUT, VALUE_INFO_NAME};
-use values::{Naming, Ruling, Tally, adding, main_type, read_name, tested, uncounted};
-use wire::{Field, Sought};
+use values::{adding, main_type, read_name, tested};
+use varint::{Refusal, refused};
+use wire::Field;
 
 // "An empty input or output means "left out" and is passed over." "Output: 21, 23, 40, and is visible from then on."
 fn node_output(
@@ -29,7 +30,7 @@ fn node_output(
     ix: Index,
     p: Progress,
     f: Field,
-) -> Step
+) -> Result<Progress, Refusal>
     requires direct { Direct model.now f }
     requires countable { Countable p (field_names model.now f) }
     requires model_len_bound { length model.now < 2 ^ 32 }
@@ -41,12 +42,10 @@ fn node_output(
 {
     let text = f.text(model);
     if text.len() == 0 {
-        return Step::Went(p);
+        return Ok(p);
     }
-    match tested(text, f.place) {
-        Tally::Refused(r) => Step::Refused(r),
-        Tally::Counted(odd) => define(model, cells, extra, ix, with_odd(p, odd), f),
-    }
+    let odd = tested(text, f.place)?;
+    define(model, cells, extra, ix, with_odd(p, odd), f)
 }
 
 // A cell holds the place of a name, so the model is shorter than the greatest number in one; the first walk passed the message, so that
@@ -58,7 +57,7 @@ pub(crate) fn node_outputs(
     ix: Index,
     p: Progress,
     node: Field,
-) -> Step
+) -> Result<Progress, Refusal>
     requires model_len_bound { length model.now < 2 ^ 32 }
     requires walked { Walked model.now Node node }
     requires countable { Countable p (flat_map (field_names model.now) (all_of Node-output (message model.now node))) }
@@ -70,18 +69,12 @@ pub(crate) fn node_outputs(
 {
     let mut c = node.contents();
     let mut q = p;
-    loop {
-        let sought = c.next_of(model, NODE_OUTPUT);
-        let Sought::Found(f, next) = sought else {
-            return Step::Went(q);
-        };
-        let step = node_output(model, cells, extra, ix, q, f);
-        let Step::Went(further) = step else {
-            return step;
-        };
+    while let Some((f, next)) = c.next_of(model, NODE_OUTPUT) {
+        let further = node_output(model, cells, extra, ix, q, f)?;
         q = further;
         c = next;
     }
+    Ok(q)
 }
 
 // "Graph output: 22, 21, 35; in the main graph then its type. An outer name serves. The same output may be listed twice."
@@ -93,20 +86,16 @@ fn graph_output(
     used: usize,
     main: bool,
     f: Field,
-) -> Tally
+) -> Result<u64, Refusal>
     requires recalling { Recalling model.now ix cells.now extra.now }
     requires f_len_bound { length (value_names model.now main f) < 2 ^ 64 }
     ensures { (k : Context) (w : Walk) → k.main ≡ main → w.scope ≡ scope_in model.now cells.now used → tally_says w result ≡ output model.now k w f }
 {
-    match read_name(model, f, VALUE_INFO_NAME, Ruling::NAME_EMPTY) {
-        Naming::Refused(r) => Tally::Refused(r),
-        Naming::Named(name, odd) => {
-            if !sees(model, cells, extra, ix, used, name.text(model)) {
-                return uncounted(Ruling::OUTPUT_NOT_VISIBLE, name.place);
-            }
-            adding(odd, main_type(model, main, f))
-        }
+    let (name, odd) = read_name(model, f, VALUE_INFO_NAME, Refusal::NAME_EMPTY)?;
+    if !sees(model, cells, extra, ix, used, name.text(model)) {
+        return refused(Refusal::OUTPUT_NOT_VISIBLE, name.place);
     }
+    adding(odd, main_type(model, main, f))
 }
 
 pub fn graph_outputs(
@@ -117,23 +106,17 @@ pub fn graph_outputs(
     used: usize,
     main: bool,
     graph: Field,
-) -> Tally
+) -> Result<u64, Refusal>
     requires recalling { Recalling model.now ix cells.now extra.now }
     requires graph_len_bound { length (flat_map (value_names model.now main) (all_of Graph-output (message model.now graph))) < 2 ^ 64 }
     ensures { (k : Context) (w : Walk) → k.main ≡ main → w.scope ≡ scope_in model.now cells.now used → tally_says w result ≡ each (output model.now k) w (all_of Graph-output (message model.now graph)) }
 {
     let mut c = graph.contents();
     let mut odd = 0;
-    loop {
-        let sought = c.next_of(model, GRAPH_OUTPUT);
-        let Sought::Found(f, next) = sought else {
-            return Tally::Counted(odd);
-        };
-        let tally = graph_output(model, cells, extra, ix, used, main, f);
-        let Tally::Counted(more) = tally else {
-            return tally;
-        };
+    while let Some((f, next)) = c.next_of(model, GRAPH_OUTPUT) {
+        let more = graph_output(model, cells, extra, ix, used, main, f)?;
         odd += more;
         c = next;
     }
+    Ok(odd)
 }

@@ -1,4 +1,6 @@
 -- What was read, and what is answered to it, by cases.
+use Rattle.std.specs.Prelude.{Some, None}
+use Rattle.std.specs.declared.option.Option.{Option}
 use Prim.Native.Nat.{ℕ}
 use mathlib.Core.Path.{◌≡◌, sym, ap, subst, subst⁻¹, ◌∙◌}
 use mathlib.Core.Bool.{Bool, true, false}
@@ -40,19 +42,8 @@ pub printed : (text out₀ : Bytes) {r : ℕ} {out : Bytes} → r ≡ length tex
 unfolding over
 printed text out₀ {r} {out} e d = ap (take r) d ∙ take_at text (drop (length text) out₀) r (sym e)
 
--- `z` is the number as the code compares it.
-pub held_failed : (size : ℕ) (z : ℤ) {more : ℤ} → z ≡ more → lt_z z (pos 0) ≡ true → record { size = 0; is_longer = false } ≡ held_of size more
-unfolding held_of
-held_failed size (pos n) e h = absurd (omega (arith, ltb-true n 0 h))
-held_failed size (negsuc n) e h = ap (held_of size) e
-
-pub held_read : (size : ℕ) (z : ℤ) {more : ℤ} → z ≡ more → lt_z z (pos 0) ≡ false → record { size = size; is_longer = lt_z (pos 0) z } ≡ held_of size more
-unfolding held_of
-held_read size (pos n) e h = ap (held_of size) e
-held_read size (negsuc n) e h = absurd (subst T h tt)
-
 -- The part of the buffer that is the file's lies in it.
-pub held_counts : (size : ℕ) (more : ℤ) (l : List ℕ) {r : Loaded} → r ≡ held_of size more → IsPrefixLen size l → IsPrefixLen r.size l
+pub held_counts : (size : ℕ) (more : Option ℕ) (l : List ℕ) {r : Loaded} → r ≡ held_of size more → IsPrefixLen size l → IsPrefixLen r.size l
 unfolding held_of
-held_counts size (pos n) l e h = subst⁻¹ (λ x. IsPrefixLen x.size l) e h
-held_counts size (negsuc n) l e h = subst⁻¹ (λ x. IsPrefixLen x.size l) e (prefix_len_of_le 0 l (omega arith))
+held_counts size (Some n) l e h = subst⁻¹ (λ x. IsPrefixLen x.size l) e h
+held_counts size None l e h = subst⁻¹ (λ x. IsPrefixLen x.size l) e (prefix_len_of_le 0 l (omega arith))

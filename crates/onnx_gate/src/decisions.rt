@@ -5,10 +5,9 @@ ghost use Rattle.report.specs.Line.{line_of};
 ghost use Rattle.gate.specs.Meaning.{meaning};
 ghost use Rattle.onnx_gate.specs.Program.{answered};
 
-use gate::{Answer, check};
+use gate::{Accepted, check};
 use report::line;
-use values::Ruling;
-use varint::Refusal;
+use varint::{Refusal, refused};
 
 // "Its whole output is one line with a newline": the first bytes of `out`, as many as are answered.
 pub(crate) fn reply(
@@ -26,22 +25,19 @@ pub(crate) fn reply(
 
 // "a longer model prints refusal 7 and a longer list 8, both at 0, 7 first"; all else is the library's answer.
 #[tactic(auto, using(crate::proofs::ProgramLaws::answering), unfolding(gate::specs::Meaning::meaning))]
-fn decide(model: &[u8], is_model_longer: bool, list: &[u8], is_list_longer: bool) -> Answer
+fn decide(
+    model: &[u8],
+    is_model_longer: bool,
+    list: &[u8],
+    is_list_longer: bool,
+) -> Result<Accepted, Refusal>
     ensures { meaning result ≡ answered model.now is_model_longer list.now is_list_longer }
 {
     if is_model_longer {
-        return Answer::Refused(Refusal {
-            number: Ruling::MODEL_TOO_LARGE,
-            place: 0,
-            first: 0,
-        });
+        return refused(Refusal::MODEL_TOO_LARGE, 0);
     }
     if is_list_longer {
-        return Answer::Refused(Refusal {
-            number: Ruling::LIST_UNSOUND,
-            place: 0,
-            first: 0,
-        });
+        return refused(Refusal::LIST_UNSOUND, 0);
     }
     let mut cells = [0u32; 4096];
     check(model, list, &mut cells)

@@ -1,4 +1,7 @@
 -- The entries of a list gone through one by one: looking for a domain, and judging each.
+use Rattle.std.specs.Prelude.{None, Some}
+use Rattle.std.specs.declared.option.Option as code
+use Rattle.std.specs.Option.{is_some}
 use Prim.Native.Nat.{ℕ, zero, suc, ◌≤◌, ◌<◌}
 use native.Mathlib.Omega.{arith}
 use mathlib.Core.Path.{◌≡◌, refl, sym, ap, ◌∙◌}
@@ -10,9 +13,8 @@ use lib.Dec.{leb}
 use borrow.Author.Tests.{leb-false, le-leb, lt-leb}
 use Rattle.varint.specs.Lists.{present, within}
 use Rattle.varint.specs.Bytes.{Bytes, same}
+use Rattle.varint.specs.Answers.{option_of}
 use Rattle.operators.specs.Operators.{headed, after, domain_of, lowest, highest, well_formed, entries_from, entries_at, entry_of, sound_entries, sound, allows}
-use Rattle.operators.specs.declared.lists.Found.{Found}
-use Rattle.operators.specs.declared.lists.Found.TheVariants.{At, Nothing}
 use Rattle.operators.proofs.Entries.{entries_done, entries_step}
 
 -- ---- looking for a domain: what is found from `pos` on is what is found from `from` on
@@ -43,11 +45,6 @@ module _ {list d : Bytes} {from pos : ℕ} (q : Seeking list d from pos) where
     pub seek_next : t ≡ false → (n : ℕ) → n ≡ after list pos → Seeking list d from n
     seek_next e n en = record { rest = rw en (rw e at seek_by) }
 
--- what the code's answer says
-abbrev says : Found → Option ℕ
-says (At e) = some e
-says Nothing = none
-
 -- what is found stands in the list
 module _ (list d : Bytes) where
   inside_cons : (pos e : ℕ) (more : List ℕ) (t : Bool) → pos < length list → (some e ≡ entry_of list d more → e < length list)
@@ -68,9 +65,14 @@ module _ (list d : Bytes) where
   inside_from zero pos e q = let z : ◌≡◌ {A = ℕ} 0 1 = cc in absurd (omega arith)
   inside_from (suc bound) pos e q = inside_test pos e _ (leb (length list) pos) refl (inside_from bound (after list pos) e) q
 
-  pub entry_inside : (pos : ℕ) {r : Found} {e : ℕ} → says r ≡ entry_of list d (entries_at list pos) → r ≡ At e → e < length list
-  unfolding entries_at
+  pub entry_inside : (pos : ℕ) {r : code.Option ℕ} {e : ℕ} → option_of r ≡ entry_of list d (entries_at list pos) → r ≡ Some e → e < length list
+  unfolding entries_at option_of
   entry_inside pos {r} {e} q k = inside_from _ pos e (rw k at q)
+
+present_some : (r : code.Option ℕ) → present (option_of r) ≡ is_some r
+unfolding present option_of
+present_some (Some e) = refl
+present_some None = refl
 
 -- ---- judging each entry: the answer for those from `pos` on is that for the whole list
 
@@ -109,13 +111,16 @@ module _ {list : Bytes} {pos : ℕ} (q : Judging list pos) where
       judge_then : (not (present (entry_of list x (entries_at list n))) && sound_entries list (entries_at list n)) ≡ sound list
       judge_then = rw (en, ex) (rw e at judge_by)
 
-      pub judge_twice : {r : Found} {p : ℕ} → says r ≡ entry_of list x (entries_at list n) → r ≡ At p → false ≡ sound list
-      unfolding present
-      judge_twice o k = rw (← o, k) at judge_then
+      -- r is what was found in those after it, f whether something was
+      module _ (r : code.Option ℕ) (o : option_of r ≡ entry_of list x (entries_at list n)) (f : Bool) (ef : f ≡ is_some r) where
+        judge_found : (not f && sound_entries list (entries_at list n)) ≡ sound list
+        judge_found = rw (← o, present_some, ← ef) at judge_then
 
-      pub judge_next : {r : Found} → says r ≡ entry_of list x (entries_at list n) → r ≡ Nothing → Judging list n
-      unfolding present
-      judge_next o k = record { rest = rw (← o, k) at judge_then }
+        pub judge_twice : f ≡ true → false ≡ sound list
+        judge_twice k = rw k at judge_found
+
+        pub judge_next : f ≡ false → Judging list n
+        judge_next k = record { rest = rw k at judge_found }
 
 -- ---- a version; x is the name that the domain d goes by
 
@@ -126,14 +131,15 @@ module _ (list x d : Bytes) (ex : x ≡ d) (version : ℕ) where
       ap (λ (p : Option ℕ). elim p [ none ↦ false | some e ↦ within (lowest list e) (highest list e) version ])
       (q ∙ ap (λ (k : Bytes). entry_of list k (entries_at list 5)) ex)
 
-  pub allows_none : {r : Found} → says r ≡ entry_of list x (entries_at list 5) → r ≡ Nothing → false ≡ allows list d version
+  pub allows_none : {r : code.Option ℕ} → option_of r ≡ entry_of list x (entries_at list 5) → r ≡ None → false ≡ allows list d version
+  unfolding option_of
   allows_none q k = allows_by none (rw k at q)
 
-  module _ {r : Found} (q : says r ≡ entry_of list x (entries_at list 5)) {e : ℕ} (k : r ≡ At e) (lo : ℕ) (el : lo ≡ lowest list e) where
+  module _ {r : code.Option ℕ} (q : option_of r ≡ entry_of list x (entries_at list 5)) {e : ℕ} (k : r ≡ Some e) (lo : ℕ) (el : lo ≡ lowest list e) where
     pub allows_below : version < lo → false ≡ allows list d version
-    unfolding within
+    unfolding within option_of
     allows_below h = sym (simp (← el, lt-leb lo version h)) ∙ allows_by (some e) (rw k at q)
 
     pub allows_to : lo ≤ version → (hi : ℕ) → hi ≡ highest list e → leb version hi ≡ allows list d version
-    unfolding within
+    unfolding within option_of
     allows_to h hi eh = sym (simp (← el, le-leb lo version h, ← eh)) ∙ allows_by (some e) (rw k at q)

@@ -1,37 +1,22 @@
 // "Our own format, all numbers big-endian: four bytes counting all that follows them; one version byte, 1; then entries to the
 // end." No slice has 2^63 bytes or more, so neither a place in a list nor the place after an entry comes near the largest number.
 ghost use Rattle.std.specs.Prelude.{◌≡◌, ◌+◌, ◌-◌, ◌^◌, ◌<◌};
-ghost use Rattle.std.proofs.Math.Option.{none, some};
-ghost use Rattle.varint.specs.Bytes.{byte};
+ghost use Rattle.varint.specs.Answers.{option_of};
 ghost use Rattle.operators.specs.Operators.{domain, two, four, headed, after, domain_of, lowest, highest, well_formed, entries_at, entry_of, sound, allows};
 
 use crate::canonical;
-use varint::{between, same_bytes};
+use varint::{between, byte_at, same_bytes};
 
-// The place of an entry that was looked for.
-#[derive(Drop)]
-enum Found {
-    At(usize),
-    Nothing,
-}
-
-// The byte at a position, 0 past the end: an entry may claim more bytes than the list has.
-fn byte_at(list: &[u8], pos: usize) -> usize
-    ensures { (result ≡ byte list.now pos) × (result < 256) }
-{
-    if pos < list.len() {
-        return list[pos] as usize;
-    }
-    0
-}
-
+// A number of two bytes. An entry may claim more bytes than the list has: those past its end are 0.
+#[tactic(auto, unfolding(crate::specs::Operators::two))]
 fn two(list: &[u8], pos: usize) -> usize
     requires { pos + 1 < 2 ^ 64 }
     ensures { (result ≡ two list.now pos) × (result < 65_536) }
 {
-    256 * byte_at(list, pos) + byte_at(list, pos + 1)
+    (256 * byte_at(list, pos) + byte_at(list, pos + 1)) as usize
 }
 
+#[tactic(auto, unfolding(crate::specs::Operators::four))]
 fn four(list: &[u8], pos: usize) -> usize
     requires { pos + 3 < 2 ^ 64 }
     ensures { (result ≡ four list.now pos) × (result < 2 ^ 32) }
@@ -88,6 +73,7 @@ fn highest(list: &[u8], entry: usize) -> u64
 }
 
 // The place after an entry. It lies further on, so that a walk over the entries ends.
+#[tactic(auto, unfolding(crate::specs::Operators::after))]
 fn after(list: &[u8], entry: usize) -> usize
     requires { entry < 2 ^ 63 }
     ensures { (result ≡ after list.now entry) × (entry < result) }
@@ -114,17 +100,18 @@ fn is_well_formed(list: &[u8], entry: usize) -> bool
 }
 
 // The first entry from `from` on that has the domain, whose name is the canonical one.
-fn entry_of(list: &[u8], from: usize, d: &[u8]) -> Found
-    ensures { elim result [ Found.At e ↦ some e | Found.Nothing ↦ none ] ≡ entry_of list.now d.now (entries_at list.now from) }
+fn entry_of(list: &[u8], from: usize, d: &[u8]) -> Option<usize>
+    ensures { option_of result ≡ entry_of list.now d.now (entries_at list.now from) }
 {
     let mut at = from;
+    // A `while`: each entry says where the next one begins.
     while at < list.len() {
         if same_bytes(d, domain_of(list, at)) {
-            return Found::At(at);
+            return Some(at);
         }
         at = after(list, at);
     }
-    Found::Nothing
+    None
 }
 
 // Is the list sound? "No domain stands twice": a second one is met by looking for each entry's domain in those after it.
@@ -135,14 +122,15 @@ pub fn is_sound(list: &[u8]) -> bool
         return false;
     }
     let mut at = 5;
+    // A `while`: each entry says where the next one begins.
     while at < list.len() {
         if !is_well_formed(list, at) {
             return false;
         }
         let next = after(list, at);
-        let Found::Nothing = entry_of(list, next, domain_of(list, at)) else {
+        if entry_of(list, next, domain_of(list, at)).is_some() {
             return false;
-        };
+        }
         at = next;
     }
     true
@@ -152,7 +140,7 @@ pub fn is_sound(list: &[u8]) -> bool
 pub fn allows(list: &[u8], d: &[u8], version: u64) -> bool
     ensures { result ≡ allows list.now (domain d.now) version }
 {
-    let Found::At(entry) = entry_of(list, 5, canonical(d)) else {
+    let Some(entry) = entry_of(list, 5, canonical(d)) else {
         return false;
     };
     if version < lowest(list, entry) {

@@ -1,4 +1,6 @@
 -- Initializers of a graph in the order of the code's tests.
+use Rattle.std.specs.Prelude.{Err, Ok}
+use Rattle.varint.specs.Answers.{Answer}
 use Prim.Native.Nat.{ℕ, ◌+◌, ◌^◌, ◌≤◌, ◌<◌}
 use native.Mathlib.Omega.{arith}
 use mathlib.Core.Path.{◌≡◌, refl, sym, ap, ◌∙◌}
@@ -29,11 +31,7 @@ use Rattle.messages.specs.Around.{context}
 use Rattle.messages.specs.Again.{tensor_names, declaring, initializer_again}
 use Rattle.messages.specs.declared.contexts.Surroundings.{Surroundings}
 use Rattle.values.specs.Answers.{more, naming_says, name_field}
-use Rattle.values.specs.declared.names.Naming.{Naming}
-use Rattle.values.specs.declared.names.Naming.TheVariants as naming_answer
 use Rattle.scope.specs.declared.scopes.Progress.{Progress}
-use Rattle.scope.specs.declared.scopes.Step.{Step}
-use Rattle.scope.specs.declared.scopes.Step.TheVariants as step
 use Rattle.scope.proofs.ScopeLaws.{scope_prefix}
 use Rattle.scope.proofs.StepLaws.{Counts, grew_few, odd_walk}
 
@@ -48,7 +46,7 @@ default_kept {model} {graph} {cells} {later} {outer} {inner} d {used} h k = reco
   names = λ x. ap (λ (l : List Name). since outer (seek x (map (λ n. n.bytes) l))) (scope_prefix model later cells used inner h k.below) ∙ d.names x;
 }
 
-pub used_after : {inputs : ℕ} (q u : Progress) {r : Step} → inputs ≤ q.used → grows q r → r ≡ step.Went u → inputs ≤ u.used
+pub used_after : {inputs : ℕ} (q u : Progress) {r : Answer Progress} → inputs ≤ q.used → grows q r → r ≡ Ok u → inputs ≤ u.used
 unfolding grows
 used_after {inputs} q u h g e = let k : q.used ≤ u.used = rw e at g in omega arith
 
@@ -120,7 +118,7 @@ module _ (model : Bytes) (full : ℕ → Bool) (s : Surroundings) (graph f : Fie
   Typed : Walk → Judged Walk
   Typed v = refuse 26 at: place_of Tensor-data_type (message model f) when: not (is_element (number_of Tensor-data_type (message model f))) >> pass v
 
-  module _ (cells : List ℕ) (p : Progress) (n : Naming) (named : (v : Walk) → naming_says v n ≡ name_field model 22 Tensor-name v (message model f)) where
+  module _ (cells : List ℕ) (p : Progress) (n : Answer (Field × ℕ)) (named : (v : Walk) → naming_says v n ≡ name_field model 22 Tensor-name v (message model f)) where
     abbrev Whole : Judged Walk
     Whole = initializer_again model full s graph (walk_in model cells p) f
 
@@ -129,14 +127,14 @@ module _ (model : Bytes) (full : ℕ → Bool) (s : Surroundings) (graph f : Fie
     unfolding initializer_again Typed
     initializer_by e = ap (λ (o : Judged Walk). o >>= λ t. Named t (name_of model Tensor-name (message model f)) >>= Typed) e
 
-    pub initializer_unnamed : {x : Refusal} → n ≡ naming_answer.Refused x → fail x ≡ Whole
+    pub initializer_unnamed : {x : Refusal} → n ≡ Err x → fail x ≡ Whole
     unfolding ◌>>=◌
     initializer_unnamed e = initializer_by (named_fails _ _ _ _ _ named (walk_in model cells p) e)
 
     -- a is the answer for the name, after it was counted, with the cells `later`
-    module _ {g : Field} {j : ℕ} (e : n ≡ naming_answer.Named g j) {t : Progress} (counted : t ≡ with_odd p j) (later : List ℕ) (a : Step)
+    module _ {g : Field} {j : ℕ} (e : n ≡ Ok (g, j)) {t : Progress} (counted : t ≡ with_odd p j) (later : List ℕ) (a : Answer Progress)
         (added : step_says model later a ≡ Named (walk_in model cells t) (name_in model g)) where
-      initializer_named : {r : Step} → a ≡ r → (step_says model later r >>= Typed) ≡ Whole
+      initializer_named : {r : Answer Progress} → a ≡ r → (step_says model later r >>= Typed) ≡ Whole
       unfolding ◌>>=◌
       initializer_named q =
           ap (λ (o : Judged Walk). o >>= Typed)
@@ -145,12 +143,12 @@ module _ (model : Bytes) (full : ℕ → Bool) (s : Surroundings) (graph f : Fie
           ∙ ap (Named (more (walk_in model cells p) j)) (named_name _ _ _ _ _ named e))
           ∙ initializer_by (named_passes _ _ _ _ _ named (walk_in model cells p) e)
 
-      pub initializer_stops : {x : Refusal} → a ≡ step.Refused x → step_says model later a ≡ Whole
+      pub initializer_stops : {x : Refusal} → a ≡ Err x → step_says model later a ≡ Whole
       unfolding step_says ◌>>=◌
       initializer_stops q = ap (step_says model later) q ∙ initializer_named q
 
       -- d is the data type, b whether it is one of an element
-      module _ {v : Progress} (q : a ≡ step.Went v) {d : ℕ} (ed : d ≡ number_of Tensor-data_type (message model f)) {b : Bool} (eb : b ≡ is_element d) where
+      module _ {v : Progress} (q : a ≡ Ok v) {d : ℕ} (ed : d ≡ number_of Tensor-data_type (message model f)) {b : Bool} (eb : b ≡ is_element d) where
         went : (refuse 26 at: place_of Tensor-data_type (message model f) when: not b >> pass (walk_in model later v)) ≡ Whole
         unfolding step_says Typed ◌>>=◌
         went =

@@ -1,4 +1,6 @@
 -- Inputs of a graph in the order of the code's tests.
+use Rattle.std.specs.Prelude.{Err, Ok}
+use Rattle.varint.specs.Answers.{Answer}
 use Prim.Native.Nat.{ℕ, ◌+◌, ◌^◌, ◌≤◌, ◌<◌}
 use native.Mathlib.Omega.{arith}
 use mathlib.Core.Path.{◌≡◌, refl, sym, ap, ◌∙◌}
@@ -24,13 +26,7 @@ use Rattle.rules.proofs.Counting.{grew_define, typed, grew_type, grew_input}
 use Rattle.scope.proofs.StepLaws.{plain, Counts, grew_few, counting_says, countable_adds, odd_walk}
 use Rattle.scope.specs.Scope.{walk_in, step_says, with_odd, counting, grows, Countable}
 use Rattle.values.specs.Answers.{more, tally_says, naming_says, name_field, Addable}
-use Rattle.values.specs.declared.names.Naming.{Naming}
-use Rattle.values.specs.declared.names.Naming.TheVariants as naming_answer
-use Rattle.values.specs.declared.tallies.Tally.{Tally}
-use Rattle.values.specs.declared.tallies.Tally.TheVariants as tally
 use Rattle.scope.specs.declared.scopes.Progress.{Progress}
-use Rattle.scope.specs.declared.scopes.Step.{Step}
-use Rattle.scope.specs.declared.scopes.Step.TheVariants as step
 use Rattle.values.proofs.TallyLaws.{tally_few}
 use Rattle.values.proofs.NameLaws.{named_name, named_passes, named_fails}
 
@@ -44,7 +40,7 @@ inputs_any model full main k e w l = ap (λ (b : Bool). each (input model full (
 -- ---- what it says
 
 -- n is the answer of reading the name
-module _ (model : Bytes) (full : ℕ → Bool) (k : Context) (cells : List ℕ) (p : Progress) (f : Field) (n : Naming)
+module _ (model : Bytes) (full : ℕ → Bool) (k : Context) (cells : List ℕ) (p : Progress) (f : Field) (n : Answer (Field × ℕ))
     (named : (v : Walk) → naming_says v n ≡ name_field model 22 ValueInfo-name v (message model f)) where
   abbrev w : Walk
   w = walk_in model cells p
@@ -57,11 +53,11 @@ module _ (model : Bytes) (full : ℕ → Bool) (k : Context) (cells : List ℕ) 
   unfolding input
   input_by e = ap (λ (o : Judged Walk). o >>= λ t. define full t (name_of model ValueInfo-name (message model f)) >>= Declared) e
 
-  pub input_unnamed : {x : Refusal} → n ≡ naming_answer.Refused x → fail x ≡ input model full k w f
+  pub input_unnamed : {x : Refusal} → n ≡ Err x → fail x ≡ input model full k w f
   unfolding ◌>>=◌
   input_unnamed e = input_by (named_fails _ _ _ _ _ named w e)
 
-  module _ {g : Field} {j : ℕ} (e : n ≡ naming_answer.Named g j) where
+  module _ {g : Field} {j : ℕ} (e : n ≡ Ok (g, j)) where
     input_named : (define full (more w j) (name_in model g) >>= Declared) ≡ input model full k w f
     unfolding ◌>>=◌
     input_named =
@@ -69,19 +65,19 @@ module _ (model : Bytes) (full : ℕ → Bool) (k : Context) (cells : List ℕ) 
         ∙ input_by (named_passes _ _ _ _ _ named w e)
 
     -- s is the answer of defining it, after it was counted, with the cells `later`
-    module _ {t : Progress} (counted : t ≡ with_odd p j) (later : List ℕ) (s : Step)
+    module _ {t : Progress} (counted : t ≡ with_odd p j) (later : List ℕ) (s : Answer Progress)
         (defined : step_says model later s ≡ define full (walk_in model cells t) (name_in model g)) where
-      input_defined : {r : Step} → s ≡ r → (step_says model later r >>= Declared) ≡ input model full k w f
+      input_defined : {r : Answer Progress} → s ≡ r → (step_says model later r >>= Declared) ≡ input model full k w f
       input_defined q =
           ap (λ (o : Judged Walk). o >>= Declared)
           (says (step_says model later) defined q ∙ ap (λ (v : Walk). define full v (name_in model g)) (odd_walk p j counted model cells))
           ∙ input_named
 
-      pub input_stops : {x : Refusal} → s ≡ step.Refused x → step_says model later s ≡ input model full k w f
+      pub input_stops : {x : Refusal} → s ≡ Err x → step_says model later s ≡ input model full k w f
       unfolding step_says ◌>>=◌
       input_stops q = ap (step_says model later) q ∙ input_defined q
 
-      pub input_goes : {v : Progress} → s ≡ step.Went v → (c : Tally) → tally_says (walk_in model later v) c ≡ Declared (walk_in model later v)
+      pub input_goes : {v : Progress} → s ≡ Ok v → (c : Answer ℕ) → tally_says (walk_in model later v) c ≡ Declared (walk_in model later v)
           → step_says model later (counting v c) ≡ input model full k w f
       unfolding step_says ◌>>=◌
       input_goes {v} q c ruled = counting_says model later v c ∙ ruled ∙ input_defined q
@@ -98,9 +94,9 @@ module _ (model : Bytes) (main : Bool) (p : Progress) (f : Field) (room : Counta
   input_fits h = let r = room in omega arith
 
   -- s is the answer of defining the name, and t what is counted of the type
-  pub input_adds : {j : ℕ} → j ≤ 1 → {q : Progress} → q ≡ with_odd p j → (cells later : List ℕ) (s : Step) (full : ℕ → Bool) (x : Name)
+  pub input_adds : {j : ℕ} → j ≤ 1 → {q : Progress} → q ≡ with_odd p j → (cells later : List ℕ) (s : Answer Progress) (full : ℕ → Bool) (x : Name)
       → step_says model later s ≡ define full (walk_in model cells q) x
-      → {v : Progress} → s ≡ step.Went v → (t : Tally)
+      → {v : Progress} → s ≡ Ok v → (t : Answer ℕ)
       → ((k : Context) (w : Walk) → k.main ≡ main → tally_says w t ≡ in_main k (declared_type model (message model f)) w)
       → Addable v.odd t
   unfolding Countable value_names step_says walk_in with_odd
@@ -113,7 +109,7 @@ module _ (model : Bytes) (main : Bool) (p : Progress) (f : Field) (room : Counta
       (let r = room in omega arith)
 
 -- names are only added
-pub input_grows : (p : Progress) (s : Step) {v : Progress} → grows p s → s ≡ step.Went v → (t : Tally) → grows p (counting v t)
+pub input_grows : (p : Progress) (s : Answer Progress) {v : Progress} → grows p s → s ≡ Ok v → (t : Answer ℕ) → grows p (counting v t)
 unfolding grows with_odd counting
-input_grows p s {v} g e (tally.Counted l) = let h : p.used ≤ v.used = rw e at g in omega arith
-input_grows p s g e (tally.Refused r) = tt
+input_grows p s {v} g e (Ok l) = let h : p.used ≤ v.used = rw e at g in omega arith
+input_grows p s g e (Err r) = tt

@@ -1,5 +1,6 @@
 -- A loop over the messages in a list, with all that it does to the extra cells: it began with `first` of them, where `top` names were
 -- remembered, and has come to `extra`.
+use Rattle.std.specs.Prelude.{Some}
 use Prim.Native.Nat.{ℕ, ◌≤◌}
 use native.Mathlib.Omega.{arith}
 use mathlib.Core.Path.{◌≡◌}
@@ -8,11 +9,9 @@ use mathlib.Core.List.{List, []}
 use lib.ListN.{drop}
 use Rattle.wire.specs.declared.Field.{Field}
 use Rattle.wire.specs.declared.Cursor.{Cursor}
-use Rattle.wire.specs.declared.Sought.{Sought}
-use Rattle.wire.specs.declared.Sought.TheVariants as sought
 use Rattle.varint.specs.Bytes.{Bytes}
 use Rattle.wire.specs.Message.{bytes_of, message}
-use Rattle.wire.specs.Answers.{contents_of, sought_says, sought_in}
+use Rattle.wire.specs.Answers.{contents_of, sought_says, sought_in, Sought}
 use Rattle.index.specs.Memory.{known}
 use Rattle.index.specs.Listing.{Listed}
 use Rattle.index.specs.declared.listings.Listing.{Listing}
@@ -38,7 +37,7 @@ module _ {model : Bytes} {ix : Index} {top number name : ℕ} {m : Field} {first
   pub lists_fits : l.top ≤ known (drop ix.split extra)
   lists_fits = q.behind.listed.fits
 
-  module _ {a : Sought} (read : sought_says a ≡ sought_in model number c.end c.at) {f : Field} {next : Cursor} (e : a ≡ sought.Found f next) where
+  module _ {a : Sought} (read : sought_says a ≡ sought_in model number c.end c.at) {f : Field} {next : Cursor} (e : a ≡ Some (f, next)) where
     pub lists_found : Listed model ix.seed (drop ix.split extra) l (earlier_in model number name m f)
     unfolding earlier_in names_in
     lists_found = behind_found q.behind read e

@@ -1,11 +1,13 @@
 -- A graph up to its nodes: the order of the code's tests, and what they count.
+use Rattle.std.specs.Prelude.{Err, Ok}
+use Rattle.varint.specs.Answers.{Answer}
 use Prim.Native.Nat.{ℕ, ◌+◌, ◌≤◌}
 use native.Mathlib.Omega.{arith}
 use mathlib.Core.Path.{◌≡◌, refl, sym, ap, subst, ◌∙◌}
 use mathlib.Core.Bool.{Bool, true, false, ◌||◌}
 use mathlib.Core.List.{List, [], ◌∷◌, map, flat_map}
 use lib.ListN.{length, length-append}
-use Rattle.varint.specs.Outcome.{pass, ◌>>=◌, ◌>>◌, each, Judged, refused, refuse◌at:◌when:◌}
+use Rattle.varint.specs.Outcome.{fail, pass, ◌>>=◌, ◌>>◌, each, Judged, refused, refuse◌at:◌when:◌}
 use Rattle.varint.specs.declared.Refusal.{Refusal}
 use Rattle.wire.specs.declared.Field.{Field}
 use Rattle.varint.specs.Lists.{present}
@@ -32,17 +34,11 @@ use Rattle.messages.specs.declared.contexts.Surroundings.{Surroundings}
 use Rattle.index.specs.Table.{seek, since}
 use Rattle.index.proofs.UseLaws.{since_none}
 use Rattle.index.proofs.ListingLaws.{since_more}
-use Rattle.values.specs.Answers.{more, tally_says, naming_says, name_field, tally_of, Addable}
-use Rattle.values.specs.declared.names.Naming.{Naming}
-use Rattle.values.specs.declared.names.Naming.TheVariants as naming_answer
-use Rattle.values.specs.declared.tallies.Tally.{Tally}
-use Rattle.values.specs.declared.tallies.Tally.TheVariants as tally
+use Rattle.values.specs.Answers.{more, tally_says, naming_says, name_field, Addable}
 use Rattle.scope.specs.declared.scopes.Progress.{Progress}
-use Rattle.scope.specs.declared.scopes.Step.{Step}
-use Rattle.scope.specs.declared.scopes.Step.TheVariants as step
 use Rattle.scope.proofs.ScopeLaws.{bytes_length, keeps_all, keeps_fewer, keeps_then}
 use Rattle.scope.proofs.StepLaws.{plain, counting_says, counting_grows, counting_few, countable_adds}
-use Rattle.values.proofs.NameLaws.{named_tally, named_passes, named_fails}
+use Rattle.values.proofs.NameLaws.{named_passes, named_fails}
 use Rattle.values.proofs.TallyLaws.{tally_few}
 use Rattle.parts.proofs.InitializerLaws.{initializer_grew}
 
@@ -56,13 +52,13 @@ module _ (model : Bytes) (f : Field) (w : Walk) where
   unfolding graph_rules Sparse
   rules_by e = ap (λ (o : Judged Walk). o >>= Sparse) e
 
-  module _ {n : Naming} (named : (v : Walk) → naming_says v n ≡ name_field model 20 Graph-name v (message model f)) where
-    pub graph_misnamed : {x : Refusal} → n ≡ naming_answer.Refused x → tally_says w (tally_of n) ≡ graph_rules model w f
+  module _ {n : Answer (Field × ℕ)} (named : (v : Walk) → naming_says v n ≡ name_field model 20 Graph-name v (message model f)) where
+    pub graph_misnamed : {x : Refusal} → n ≡ Err x → fail x ≡ graph_rules model w f
     unfolding ◌>>=◌
-    graph_misnamed e = named_tally _ _ _ _ _ named w ∙ sym (named_fails _ _ _ _ _ named w e) ∙ rules_by (named_fails _ _ _ _ _ named w e)
+    graph_misnamed e = rules_by (named_fails _ _ _ _ _ named w e)
 
     -- h is whether there is a sparse initializer
-    module _ {g : Field} {j : ℕ} (e : n ≡ naming_answer.Named g j) {h : Bool} (eh : h ≡ present (first_of Graph-sparse_initializer (message model f))) where
+    module _ {g : Field} {j : ℕ} (e : n ≡ Ok (g, j)) {h : Bool} (eh : h ≡ present (first_of Graph-sparse_initializer (message model f))) where
       graph_named : (refuse 16 at: place_of Graph-sparse_initializer (message model f) when: h >> pass (more w j)) ≡ graph_rules model w f
       unfolding ◌>>=◌ Sparse
       graph_named =
@@ -77,10 +73,10 @@ module _ (model : Bytes) (f : Field) (w : Walk) where
 
 -- ---- the whole: r is what they count
 
-pub grows_then : (p q : Progress) (r : Step) → grows p (step.Went q) → grows q r → grows p r
+pub grows_then : (p q : Progress) (r : Answer Progress) → grows p (Ok q) → grows q r → grows p r
 unfolding grows
-grows_then p q (step.Went u) h k = omega arith
-grows_then p q (step.Refused x) h k = tt
+grows_then p q (Ok u) h k = omega arith
+grows_then p q (Err x) h k = tt
 
 module _ (model : Bytes) (s : Surroundings) (cells : List ℕ) (p : Progress) (f : Field) where
   abbrev Opened : Judged Walk
@@ -98,43 +94,43 @@ module _ (model : Bytes) (s : Surroundings) (cells : List ℕ) (p : Progress) (f
   opening_by e = ap (λ (o : Judged Walk). o >>= λ w. Inputs (context model s) w >>= Initializers (length cells)) e
 
   -- n is the step of that
-  module _ (r : Tally) (ruled : (w : Walk) → tally_says w r ≡ graph_rules model w f) {n : Step} (stepped : n ≡ counting p r) where
-    named : {t : Step} → n ≡ t → step_says model cells t ≡ graph_rules model (walk_in model cells p) f
+  module _ (r : Answer ℕ) (ruled : (w : Walk) → tally_says w r ≡ graph_rules model w f) {n : Answer Progress} (stepped : n ≡ counting p r) where
+    named : {t : Answer Progress} → n ≡ t → step_says model cells t ≡ graph_rules model (walk_in model cells p) f
     named e = ap (step_says model cells) (sym e ∙ stepped) ∙ counting_says model cells p r ∙ ruled (walk_in model cells p)
 
-    begun : {q : Progress} → n ≡ step.Went q → grows p (step.Went q)
+    begun : {q : Progress} → n ≡ Ok q → grows p (Ok q)
     begun e = subst (grows p) (sym stepped ∙ e) (counting_grows p r)
 
-    pub opening_refused : {x : Refusal} → n ≡ step.Refused x → (step_says model cells n ≡ Opened) × (grows p n × Keeps p.used cells cells)
+    pub opening_refused : {x : Refusal} → n ≡ Err x → (step_says model cells n ≡ Opened) × (grows p n × Keeps p.used cells cells)
     unfolding step_says grows ◌>>=◌
     opening_refused {x} k = (ap (step_says model cells) k ∙ opening_by (named k), (rw k tt, keeps_all _ _))
 
     -- a is the answer for the inputs, with the cells `later`
-    module _ {t : Progress} (k : n ≡ step.Went t) (later : List ℕ) (a : Step)
+    module _ {t : Progress} (k : n ≡ Ok t) (later : List ℕ) (a : Answer Progress)
         (answer : (c : Context) → c.main ≡ s.main → step_says model later a ≡ Inputs c (walk_in model cells t))
         (more : grows t a) (kept : Keeps t.used cells later) where
       still : Keeps p.used cells later
       unfolding grows
       still = keeps_fewer (begun k) kept
 
-      opening_ruled : {u : Step} → a ≡ u → (step_says model later u >>= Initializers (length cells)) ≡ Opened
+      opening_ruled : {u : Answer Progress} → a ≡ u → (step_says model later u >>= Initializers (length cells)) ≡ Opened
       unfolding context step_says ◌>>=◌
       opening_ruled e =
           ap (λ (o : Judged Walk). o >>= Initializers (length cells)) (says (step_says model later) (answer (context model s) refl) e)
           ∙ opening_by (named k)
 
-      pub opening_stops : {x : Refusal} → a ≡ step.Refused x → (step_says model later a ≡ Opened) × (grows p a × Keeps p.used cells later)
+      pub opening_stops : {x : Refusal} → a ≡ Err x → (step_says model later a ≡ Opened) × (grows p a × Keeps p.used cells later)
       unfolding step_says ◌>>=◌
       opening_stops e = (ap (step_says model later) e ∙ opening_ruled e, (grows_then p t a (begun k) more, still))
 
       -- u is the answer for the initializers, with the cells `last`
-      pub opening_goes : {q : Progress} → a ≡ step.Went q → (last : List ℕ) (u : Step)
+      pub opening_goes : {q : Progress} → a ≡ Ok q → (last : List ℕ) (u : Answer Progress)
           → step_says model last u ≡ Initializers (length later) (walk_in model later q) → grows q u
           → Keeps q.used later last
           → (step_says model last u ≡ Opened) × (grows p u × Keeps p.used cells last)
       unfolding step_says grows ◌>>=◌
       opening_goes {q} e last u inner on held =
-          let went : grows p (step.Went q) = grows_then p t (step.Went q) (begun k) (rw e at more) in (
+          let went : grows p (Ok q) = grows_then p t (Ok q) (begun k) (rw e at more) in (
             inner ∙ ap (λ (size : ℕ). Initializers size (walk_in model later q)) kept.size ∙ opening_ruled e,
             (grows_then p q u went on, keeps_then still (keeps_fewer went held)),
           )
@@ -149,7 +145,7 @@ module _ (model : Bytes) where
       tells_bind (Adds w (odds (x.bytes ∷ []))) (Adds w (odds (x.bytes ∷ []))) Any (naming 20 w x) _ (naming_tells Any w x 20 tt tt) (λ t h.
       past (Adds w (odds (x.bytes ∷ []))) (refuse 16 at: _ when: _) _ h)
 
-  pub rules_few : (f : Field) {r : Tally} → ((w : Walk) → tally_says w r ≡ graph_rules model w f) → {k : ℕ} → r ≡ tally.Counted k → k ≤ 1
+  pub rules_few : (f : Field) {r : Answer ℕ} → ((w : Walk) → tally_says w r ≡ graph_rules model w f) → {k : ℕ} → r ≡ Ok k → k ≤ 1
   rules_few f e i =
       let names = bytes_of model Graph-name (message model f) ∷ [] in
       tally_few start (e start) names (Adds start (odds names)) (λ v a. a.3) (rules_grew start f) i
@@ -189,13 +185,13 @@ module _ (model : Bytes) (main : Bool) (p : Progress) (f : Field) (room : Counta
   unfolding opening_names
   lengths = let e = length-append (bytes_of model Graph-name (message model f) ∷ Ins) Values in omega arith
 
-  pub opening_fits : (r : Tally) → ((w : Walk) → tally_says w r ≡ graph_rules model w f) → Addable p.odd r
+  pub opening_fits : (r : Answer ℕ) → ((w : Walk) → tally_says w r ≡ graph_rules model w f) → Addable p.odd r
   unfolding Countable
   opening_fits r ruled =
       countable_adds p r (bytes_of model Graph-name (message model f) ∷ []) (λ l i. rules_few model f ruled i)
       (let n = lengths in let h = room in omega arith)
 
-  module _ (r : Tally) (ruled : (w : Walk) → tally_says w r ≡ graph_rules model w f) {n : Step} (stepped : n ≡ counting p r) {t : Progress} (e : n ≡ step.Went t) where
+  module _ (r : Answer ℕ) (ruled : (w : Walk) → tally_says w r ≡ graph_rules model w f) {n : Answer Progress} (stepped : n ≡ counting p r) {t : Progress} (e : n ≡ Ok t) where
     after_name : (t.used ≡ p.used) × (t.nodes ≡ p.nodes) × (t.odd ≤ p.odd + 1)
     after_name = counting_few p r 1 (λ l i. rules_few model f ruled i) stepped e
 
@@ -204,10 +200,10 @@ module _ (model : Bytes) (main : Bool) (p : Progress) (f : Field) (room : Counta
     opening_inputs = let all = lengths in let h = room in let a = after_name.2 in omega arith
 
     -- s is the answer for the inputs, with the cells `later`
-    pub opening_values : (cells later : List ℕ) (s : Step)
+    pub opening_values : (cells later : List ℕ) (s : Answer Progress)
         → ((c : Context) → c.main ≡ main
         → step_says model later s ≡ each (input model (fills (length cells)) c) (walk_in model cells t) (all_of Graph-input (message model f)))
-        → {q : Progress} → s ≡ step.Went q → Countable q Values
+        → {q : Progress} → s ≡ Ok q → Countable q Values
     unfolding Countable step_says walk_in
     opening_values cells later s answer {q} i =
         let passed = sym (says (step_says model later) (answer (plain main) refl) i) in
@@ -253,10 +249,10 @@ module _ (model : Bytes) (full : ℕ → Bool) (c : Context) where
       ∙ ap (λ (b : Bool). member x (Names l) || b) (since_more x y (Texts w.scope) outer h)
       ∙ or_shift (member x (Names l)) (same x y) (since outer (seek x (Texts w.scope)))
 
-pub inputs_defaultable : (model : Bytes) (cells later : List ℕ) (p : Progress) {q : Progress} (f : Field) (main : Bool) (s : Step)
+pub inputs_defaultable : (model : Bytes) (cells later : List ℕ) (p : Progress) {q : Progress} (f : Field) (main : Bool) (s : Answer Progress)
     → ((c : Context) → c.main ≡ main
     → step_says model later s ≡ each (input model (fills (length cells)) c) (walk_in model cells p) (all_of Graph-input (message model f)))
-    → s ≡ step.Went q
+    → s ≡ Ok q
     → Defaultable model f later p.used q.used
 unfolding step_says walk_in bytes_in inputs_of
 inputs_defaultable model cells later p {q} f main s answer e = record {

@@ -23,12 +23,14 @@ ghost use Rattle.messages.specs.Again.{tensor_names, declaring, initializer_agai
 use headers::is_listed;
 use index::Listing;
 use messages::Surroundings;
-use scope::{Index, Progress, Step, define, list, sees_since, stopped, with_odd};
+use scope::{Index, Progress, define, list, sees_since, with_odd};
 use values::numbers::{GRAPH_INITIALIZER, TENSOR_DATA_TYPE, TENSOR_NAME};
-use values::{Naming, Ruling, is_element, read_name};
-use wire::{Field, Sought};
+use values::{is_element, read_name};
+use varint::{Refusal, refused};
+use wire::Field;
 
 // Has an earlier initializer of the graph this name?
+#[tactic(auto, unfolding(headers::specs::Earlier::earlier_in))]
 fn is_repeated(
     model: &[u8],
     extra: &[u32],
@@ -119,7 +121,7 @@ fn declare(
     graph: Field,
     f: Field,
     name: Field,
-) -> Step
+) -> Result<Progress, Refusal>
     requires direct { Direct model.now name }
     requires model_len_bound { length model.now < 2 ^ 32 }
     requires recalling { Recalling model.now ix cells.old extra.old }
@@ -133,10 +135,10 @@ fn declare(
 {
     let own = bears_input(model, cells, extra, ix, s, inputs, name.text(model));
     if s.lacks_input(own) {
-        return stopped(Ruling::INITIALIZER_NOT_INPUT, name.place);
+        return refused(Refusal::INITIALIZER_NOT_INPUT, name.place);
     }
     if is_default(model, extra, ix, l, own, graph, f, name.text(model)) {
-        return Step::Went(p);
+        return Ok(p);
     }
     define(model, cells, extra, ix, p, name)
 }
@@ -153,7 +155,7 @@ fn initializer(
     p: Progress,
     graph: Field,
     f: Field,
-) -> Step
+) -> Result<Progress, Refusal>
     requires model_len_bound { length model.now < 2 ^ 32 }
     requires walked { Walked model.now Tensor f }
     requires countable { Countable p (tensor_names model.now f) }
@@ -165,20 +167,13 @@ fn initializer(
     ensures kept { Keeps p.used cells.old cells.new }
     ensures memory { Recalled model.now ix cells.new extra.old extra.new }
 {
-    match read_name(model, f, TENSOR_NAME, Ruling::NAME_EMPTY) {
-        Naming::Refused(r) => Step::Refused(r),
-        Naming::Named(name, odd) => {
-            let t = with_odd(p, odd);
-            let step = declare(model, cells, extra, ix, l, s, inputs, t, graph, f, name);
-            let Step::Went(q) = step else {
-                return step;
-            };
-            if is_element(f.number_of(model, TENSOR_DATA_TYPE)) {
-                return Step::Went(q);
-            }
-            stopped(Ruling::BAD_DATA_TYPE, f.place_of(model, TENSOR_DATA_TYPE))
-        }
+    let (name, odd) = read_name(model, f, TENSOR_NAME, Refusal::NAME_EMPTY)?;
+    let t = with_odd(p, odd);
+    let q = declare(model, cells, extra, ix, l, s, inputs, t, graph, f, name)?;
+    if is_element(f.number_of(model, TENSOR_DATA_TYPE)) {
+        return Ok(q);
     }
+    refused(Refusal::BAD_DATA_TYPE, f.place_of(model, TENSOR_DATA_TYPE))
 }
 
 // Where no initializer is a default, their names are not listed. The records of the inputs are those from `outer` on.
@@ -192,7 +187,7 @@ pub(crate) fn initializers(
     outer: usize,
     p: Progress,
     graph: Field,
-) -> Step
+) -> Result<Progress, Refusal>
     requires model_len_bound { length model.now < 2 ^ 32 }
     requires walked { Walked model.now Graph graph }
     requires countable { Countable p (flat_map (tensor_names model.now) (all_of Graph-initializer (message model.now graph))) }
@@ -205,27 +200,21 @@ pub(crate) fn initializers(
     ensures memory { Minded model.now ix top cells.new extra.old extra.new }
 {
     let inputs = Inputs {
-        outer: outer,
+        outer,
         inner: p.used,
     };
     let mut c = graph.contents();
     let mut q = p;
     let mut l = Listing {
         base: top,
-        top: top,
+        top,
         whole: s.takes_defaults(),
     };
-    loop {
-        let sought = c.next_of(model, GRAPH_INITIALIZER);
-        let Sought::Found(f, next) = sought else {
-            return Step::Went(q);
-        };
-        let step = initializer(model, cells, extra, ix, l, s, inputs, q, graph, f);
-        let Step::Went(further) = step else {
-            return step;
-        };
+    while let Some((f, next)) = c.next_of(model, GRAPH_INITIALIZER) {
+        let further = initializer(model, cells, extra, ix, l, s, inputs, q, graph, f)?;
         l = list(model, extra, ix, l, f, TENSOR_NAME);
         q = further;
         c = next;
     }
+    Ok(q)
 }

@@ -14,10 +14,11 @@ ghost use Rattle.rules.specs.Graph.{input};
 ghost use Rattle.scope.specs.Scope.{walk_in, step_says, grows, Countable, Keeps};
 ghost use Rattle.scope.specs.Recall.{Recalling, Recalled};
 
-use scope::{Index, Progress, Step, counting, define, with_odd};
+use scope::{Index, Progress, counting, define, with_odd};
 use values::numbers::{GRAPH_INPUT, VALUE_INFO_NAME};
-use values::{Naming, Ruling, main_type, read_name};
-use wire::{Field, Sought};
+use values::{main_type, read_name};
+use varint::Refusal;
+use wire::Field;
 
 // "Input: 22, 21, 23, 40; in the main graph then its type."
 fn input(
@@ -28,7 +29,7 @@ fn input(
     main: bool,
     p: Progress,
     f: Field,
-) -> Step
+) -> Result<Progress, Refusal>
     requires model_len_bound { length model.now < 2 ^ 32 }
     requires walked { Walked model.now ValueInfo f }
     requires countable { Countable p (value_names model.now main f) }
@@ -38,16 +39,9 @@ fn input(
     ensures kept { Keeps p.used cells.old cells.new }
     ensures memory { Recalled model.now ix cells.new extra.old extra.new }
 {
-    match read_name(model, f, VALUE_INFO_NAME, Ruling::NAME_EMPTY) {
-        Naming::Refused(r) => Step::Refused(r),
-        Naming::Named(name, odd) => {
-            let step = define(model, cells, extra, ix, with_odd(p, odd), name);
-            let Step::Went(q) = step else {
-                return step;
-            };
-            counting(q, main_type(model, main, f))
-        }
-    }
+    let (name, odd) = read_name(model, f, VALUE_INFO_NAME, Refusal::NAME_EMPTY)?;
+    let q = define(model, cells, extra, ix, with_odd(p, odd), name)?;
+    counting(q, main_type(model, main, f))
 }
 
 pub(crate) fn inputs(
@@ -58,7 +52,7 @@ pub(crate) fn inputs(
     main: bool,
     p: Progress,
     graph: Field,
-) -> Step
+) -> Result<Progress, Refusal>
     requires model_len_bound { length model.now < 2 ^ 32 }
     requires walked { Walked model.now Graph graph }
     requires countable { Countable p (flat_map (value_names model.now main) (all_of Graph-input (message model.now graph))) }
@@ -70,16 +64,10 @@ pub(crate) fn inputs(
 {
     let mut c = graph.contents();
     let mut q = p;
-    loop {
-        let sought = c.next_of(model, GRAPH_INPUT);
-        let Sought::Found(f, next) = sought else {
-            return Step::Went(q);
-        };
-        let step = input(model, cells, extra, ix, main, q, f);
-        let Step::Went(further) = step else {
-            return step;
-        };
+    while let Some((f, next)) = c.next_of(model, GRAPH_INPUT) {
+        let further = input(model, cells, extra, ix, main, q, f)?;
         q = further;
         c = next;
     }
+    Ok(q)
 }

@@ -14,26 +14,24 @@ use crate::initializers::initializers;
 use crate::inputs::inputs;
 use headers::has;
 use messages::Surroundings;
-use scope::{Index, Progress, Step, counting};
+use scope::{Index, Progress, counting};
 use values::numbers::{GRAPH_NAME, GRAPH_SPARSE_INITIALIZER};
-use values::{Naming, Ruling, Tally, read_name, tally_of, uncounted};
+use values::read_name;
+use varint::{Refusal, refused};
 use wire::Field;
 
 // "its name (20, 21); 16"
-fn graph_rules(model: &[u8], f: Field) -> Tally
+fn graph_rules(model: &[u8], f: Field) -> Result<u64, Refusal>
     ensures { (w : Walk) → tally_says w result ≡ graph_rules model.now w f }
 {
-    let naming = read_name(model, f, GRAPH_NAME, Ruling::GRAPH_NAME_EMPTY);
-    let Naming::Named(_, odd) = naming else {
-        return tally_of(naming);
-    };
+    let (_, odd) = read_name(model, f, GRAPH_NAME, Refusal::GRAPH_NAME_EMPTY)?;
     if has(model, f, GRAPH_SPARSE_INITIALIZER) {
-        return uncounted(
-            Ruling::SPARSE_INITIALIZER,
+        return refused(
+            Refusal::SPARSE_INITIALIZER,
             f.place_of(model, GRAPH_SPARSE_INITIALIZER),
         );
     }
-    Tally::Counted(odd)
+    Ok(odd)
 }
 
 // "its name (20, 21); 16; inputs; initializers"
@@ -46,7 +44,7 @@ pub fn opening(
     s: Surroundings,
     p: Progress,
     f: Field,
-) -> Step
+) -> Result<Progress, Refusal>
     requires model_len_bound { length model.now < 2 ^ 32 }
     requires walked { Walked model.now Graph f }
     requires countable { Countable p (opening_names model.now s.main f) }
@@ -57,13 +55,7 @@ pub fn opening(
     ensures kept { Keeps p.used cells.old cells.new }
     ensures memory { Minded model.now ix top cells.new extra.old extra.new }
 {
-    let named = counting(p, graph_rules(model, f));
-    let Step::Went(first) = named else {
-        return named;
-    };
-    let step = inputs(model, cells, extra, ix, s.main, first, f);
-    let Step::Went(q) = step else {
-        return step;
-    };
+    let first = counting(p, graph_rules(model, f))?;
+    let q = inputs(model, cells, extra, ix, s.main, first, f)?;
     initializers(model, cells, extra, ix, top, s, first.used, q, f)
 }

@@ -1,4 +1,5 @@
 -- A line is put together from its parts, each after the ones before.
+use Rattle.std.specs.Prelude.{Err, Ok}
 use Prim.Native.Nat.{ℕ, suc, ◌+◌, ◌≤◌, ◌<◌}
 use mathlib.Core.Path.{◌≡◌, refl, sym, ap, subst, subst⁻¹, ◌∙◌}
 use mathlib.Core.Bool.{Bool, true, false}
@@ -11,38 +12,10 @@ use Rattle.varint.specs.Outcome.{pass, fail}
 use Rattle.varint.specs.Bytes.{Bytes}
 use Rattle.varint.specs.Notation.{ascii}
 use Rattle.varint.specs.declared.Refusal.{Refusal}
-use Rattle.gate.specs.declared.checks.Answer.{Answer}
-use Rattle.gate.specs.declared.checks.Answer.TheVariants as answer
+use Rattle.gate.specs.declared.checks.Accepted.{Accepted}
+use Rattle.varint.specs.Answers.{Answer}
 use Rattle.gate.specs.Meaning.{meaning}
 use Rattle.report.specs.Line.{decimal, numbers_of, first_of, line_of, over}
-
--- The first `i` bytes of `text` stand in `out` from `start` on.
-pub record Putting (out₀ : List ℕ) (start : ℕ) (text : List ℕ) (i : ℕ) (out : List ℕ) : Type 0 where
-  pub within : i ≤ length text
-  pub so_far : out ≡ paste out₀ start text i
-  pub whole : length out ≡ length out₀
-
-pub put_start : (out : List ℕ) (start : ℕ) (text : List ℕ) → Putting out start text 0 out
-put_start out start text = record { within = omega arith; so_far = paste-zero out start text; whole = refl }
-
-pub put_turn : {out₀ : List ℕ} {start : ℕ} {text : List ℕ} {i : ℕ} {out : List ℕ}
-    → Putting out₀ start text i out → start + length text ≤ length out₀ → i < length text
-    → Putting out₀ start text (i + 1) (set out (start + i) (get_or text i 0))
-put_turn {out₀} {start} {text} {i} {out} h fits more =
-    let e : i + 1 ≡ suc i = omega arith in
-    subst⁻¹ (λ n. Putting out₀ start text n (set out (start + i) (get_or text i 0))) e
-    (record {
-      within = omega arith;
-      so_far = ap (λ l. set l (start + i) (get_or text i 0)) h.so_far ∙ paste-suc out₀ start text i 0 (omega arith) more;
-      whole = length-set out (start + i) (get_or text i 0) ∙ h.whole;
-    })
-
-pub put_done : {out₀ : List ℕ} {start : ℕ} {text : List ℕ} {i : ℕ} {out : List ℕ}
-    → Putting out₀ start text i out → length text ≤ i
-    → (start + i ≡ start + length text) × (out ≡ paste out₀ start text (length text))
-put_done {out₀} {start} {text} {i} {out} h done =
-    let e : i ≡ length text = omega (arith, h.within) in
-    (ap (λ n. start + n) e, h.so_far ∙ ap (paste out₀ start text) e)
 
 -- `text` has been put at the start of `out₀`, `r` bytes in all.
 pub record Written (out₀ text : Bytes) (r : ℕ) (out : Bytes) : Type 0 where
@@ -118,14 +91,14 @@ pub accepted_written : (nodes names odd : ℕ) {out₀ : Bytes} {r : ℕ} {out :
 unfolding line_of
 accepted_written nodes names odd w = (w.size, w.so_far)
 
-pub line_accepted : (out₀ : Bytes) {a : Answer} {nodes names odd r : ℕ} {out : Bytes}
-    → a ≡ answer.Accepted nodes names odd → Says out₀ (line_of (pass (record { nodes = nodes; names = names; odd = odd }))) r out
+pub line_accepted : (out₀ : Bytes) {a : Answer Accepted} {x : Accepted} {r : ℕ} {out : Bytes}
+    → a ≡ Ok x → Says out₀ (line_of (pass (record { nodes = x.nodes; names = x.names; odd = x.odd }))) r out
     → Says out₀ (line_of (meaning a)) r out
 unfolding meaning
 line_accepted out₀ {r} {out} e says = subst⁻¹ (λ x. Says out₀ (line_of (meaning x)) r out) e says
 
-pub line_refused : (out₀ : Bytes) {a : Answer} {f : Refusal} {r : ℕ} {out : Bytes}
-    → a ≡ answer.Refused f → Says out₀ (line_of (fail f)) r out
+pub line_refused : (out₀ : Bytes) {a : Answer Accepted} {f : Refusal} {r : ℕ} {out : Bytes}
+    → a ≡ Err f → Says out₀ (line_of (fail f)) r out
     → Says out₀ (line_of (meaning a)) r out
 unfolding meaning
 line_refused out₀ {r} {out} e says = subst⁻¹ (λ x. Says out₀ (line_of (meaning x)) r out) e says

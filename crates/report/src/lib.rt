@@ -9,20 +9,19 @@ ghost use Rattle.varint.specs.Outcome.{pass, fail};
 ghost use Rattle.gate.specs.Meaning.{meaning};
 ghost use Rattle.report.specs.Line.{decimal, numbers_of, line_of, over};
 
-use gate::Answer;
-use values::Ruling;
+use gate::Accepted;
 use varint::Refusal;
 
 // Puts the line, its end included, at the start of `out`, whose other bytes stay, and answers how many bytes it has. The longest
 // has three numbers of 20 digits, words of 15, 7 and 5 bytes, and its end: 88.
-pub fn line(answer: Answer, out: &mut [u8; 96]) -> usize
+pub fn line(answer: Result<Accepted, Refusal>, out: &mut [u8; 96]) -> usize
     ensures counts { IsPrefixLen result out.new }
     ensures size { result ≡ length (line_of (meaning answer)) }
     ensures text { out.new ≡ over (line_of (meaning answer)) out.old }
 {
     match answer {
-        Answer::Accepted { nodes, names, odd } => accepted(nodes, names as u64, odd, out),
-        Answer::Refused(r) => refused(r, out),
+        Ok(a) => accepted(a.nodes, a.names as u64, a.odd, out),
+        Err(r) => refused(r, out),
     }
 }
 
@@ -45,7 +44,7 @@ fn refused(r: Refusal, out: &mut [u8; 96]) -> usize
     ensures text { out.new ≡ over (line_of (fail r)) out.old }
 {
     let at = numbers(b"refused ", r.number as u64, b" at ", r.place as u64, out);
-    if r.number == Ruling::ALREADY_VISIBLE {
+    if r.number == Refusal::ALREADY_VISIBLE {
         let at = put(b" first ", out, at);
         let at = put_number(r.first as u64, out, at);
         return put(b"\n", out, at);
@@ -72,12 +71,9 @@ fn put(text: &[u8], out: &mut [u8], at: usize) -> usize
     ensures size { result ≡ at + length text.now }
     ensures text { out.new ≡ paste out.old at text.now (length text.now) }
 {
-    let mut i = 0;
-    while i < text.len() {
-        out[at + i] = text[i];
-        i += 1;
-    }
-    at + i
+    let end = at + text.len();
+    out[at..end].copy_from_slice(text);
+    end
 }
 
 // The same for a number in decimal digits.

@@ -14,9 +14,6 @@ use Rattle.schema.specs.Rows.{rows, row_in, row_of}
 pub row_at : (k : Kind) (m : ℕ) {n : ℕ} → n ≡ m → row_of k m ≡ row_of k n
 row_at k m e = ap (row_of k) (sym e)
 
-pub row_by : (k : Kind) {kind : Kind} (n : ℕ) {r : Row} → kind ≡ k → r ≡ row_of k n → r ≡ row_of kind n
-row_by k n e h = rw e h
-
 -- the field numbers of a table
 unfoldable pub numbers : List (ℕ × String × Row) → List ℕ
 numbers [] = []

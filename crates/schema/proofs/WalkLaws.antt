@@ -1,47 +1,34 @@
 -- A turn of the loop of the first walk, for each way through it.
+use Rattle.std.specs.Prelude.{Err, None, Ok, Some}
+use Rattle.varint.specs.Answers.{Answer, outcome_of, option_of}
+use Rattle.std.specs.declared.option.Option as code
 use Prim.Native.Nat.{ℕ, ◌+◌, ◌-◌, ◌≤◌, ◌<◌}
 use native.Mathlib.Omega.{arith}
 use mathlib.Core.Path.{◌≡◌, refl, sym, ap, ◌∙◌}
-use mathlib.Core.Bool.{Bool, true, false, ◌&&◌, ◌||◌}
+use mathlib.Core.Bool.{Bool, true, false, ◌&&◌}
 use mathlib.Core.List.{List, []}
 use lib.ListN.{set, replicate}
 use lib.Dec.{eqb}
-use borrow.Author.Tests.{eq-eqb, ne_eqb, eqb-false}
+use borrow.Author.Tests.{eqb-false}
 use Rattle.varint.specs.Outcome.{pass, fail, ◌>>=◌, ◌>>◌, Rule, refused, refuse◌at:◌when:◌}
 use Rattle.varint.specs.Bytes.{Bytes}
 use Rattle.wire.specs.Wire.{tag, value}
-use Rattle.wire.specs.Answers.{tag_says, field_says, with_cursor}
+use Rattle.wire.specs.Answers.{with_cursor}
 use Rattle.varint.specs.declared.Refusal.{Refusal}
 use Rattle.wire.specs.declared.Tag.{Tag}
 use Rattle.wire.specs.declared.Field.{Field}
 use Rattle.wire.specs.declared.Cursor.{Cursor}
-use Rattle.wire.specs.declared.TagAnswer.{TagAnswer}
-use Rattle.wire.specs.declared.TagAnswer.TheVariants as tag_answer
-use Rattle.wire.specs.declared.FieldAnswer.{FieldAnswer}
-use Rattle.wire.specs.declared.FieldAnswer.TheVariants as field_answer
 use Rattle.varint.proofs.Passing.{passed_tells}
 use Rattle.wire.proofs.Reading.{AtTag, Follows, tag_tells, value_tells}
 use Rattle.varint.proofs.Answers.{says}
 use Rattle.wire.proofs.CursorLaws.{with_cursor_read, with_cursor_refused}
 use Rattle.schema.specs.declared.Kind.{Kind}
 use Rattle.schema.specs.declared.Row.{Row}
-use Rattle.schema.specs.declared.Content.{Content}
-use Rattle.schema.specs.declared.Content.TheVariants as content
-use Rattle.schema.specs.declared.WalkAnswer.{WalkAnswer}
-use Rattle.schema.specs.declared.WalkAnswer.TheVariants as walk_answer
 use Rattle.schema.specs.Rows.{row_of, has_nodes}
 use Rattle.schema.specs.FirstWalk.{fits, slot_of, taken, take_up, kind_of, deeper, contents, turn, walked}
-use Rattle.schema.specs.Answers.{walk_says, content_says, silent, slot_index, taken_in}
+use Rattle.schema.specs.Answers.{slot_index, taken_in}
 use Rattle.schema.proofs.SlotLaws.{low_slot, Slots, slots_none, slots_taken, slots_more}
 use Rattle.schema.proofs.Bound.{walked_done, step, walked_step}
-
--- ---- a packable row
-
-pub fits_packed : (wire a : ℕ) {b : ℕ} → wire ≡ a → a ≡ b → true ≡ (eqb wire b || eqb wire 2)
-fits_packed wire a e q = rw (eq-eqb wire _ (e ∙ q)) refl
-
-pub fits_either : (wire a : ℕ) {b : ℕ} → (wire ≡ a → ⊥) → a ≡ b → eqb wire 2 ≡ (eqb wire b || eqb wire 2)
-fits_either wire a n q = rw (ne_eqb wire _ (λ e. n (e ∙ sym q))) refl
 
 -- ---- the definition of a turn, case by case
 
@@ -115,14 +102,14 @@ module _ {s : Bytes} {kind : Kind} {depth start end : ℕ} {seen : List ℕ} {c 
     on : c.at < end → step s kind depth g.slots end c.at ≡ walked s kind depth [] end start
     on h = sym (walked_step s kind depth g.slots end c.at h) ∙ g.whole
 
-    module _ (h : c.at < end) (a : TagAnswer) (read : tag_says a ≡ tag s c.end c.at) where
-      pub walk_tag : {r : Refusal} (x : WalkAnswer) → a ≡ tag_answer.Refused r → walk_says x ≡ silent (tag_says a) → walk_says x ≡ walked s kind depth [] end start
-      unfolding silent tag_says ◌>>=◌
-      walk_tag x e w = w ∙ rw e (step_tag s kind depth g.slots end c.at _ (sym (says tag_says (rw g.ends at read) e)) ∙ on h)
+    module _ (h : c.at < end) (a : Answer Tag) (read : outcome_of a ≡ tag s c.end c.at) where
+      pub walk_tag : {r : Refusal} → a ≡ Err r → fail r ≡ walked s kind depth [] end start
+      unfolding outcome_of
+      walk_tag e = step_tag s kind depth g.slots end c.at _ (sym (says outcome_of (rw g.ends at read) e)) ∙ on h
 
-      pub walk_tagged : {t : Tag} {row : Row} → a ≡ tag_answer.Read t → row ≡ row_of kind t.number → Tagged s kind depth start end seen c t row
-      unfolding tag_says
-      walk_tagged e q = record { going = g; here = h; read = sym (says tag_says (rw g.ends at read) e); rowed = q }
+      pub walk_tagged : {t : Tag} {row : Row} → a ≡ Ok t → row ≡ row_of kind t.number → Tagged s kind depth start end seen c t row
+      unfolding outcome_of
+      walk_tagged e q = record { going = g; here = h; read = sym (says outcome_of (rw g.ends at read) e); rowed = q }
 
   module _ {t : Tag} {row : Row} (g : Tagged s kind depth start end seen c t row) where
     pub walk_wire : {b : Bool} → b ≡ fits t.wire row → b ≡ false → refused 4 c.at ≡ walked s kind depth [] end start
@@ -141,19 +128,18 @@ module _ {s : Bytes} {kind : Kind} {depth start end : ℕ} {seen : List ℕ} {c 
       pub walk_repeat : {d : Bool} → d ≡ taken_in seen slot → d ≡ true → refused 5 c.at ≡ walked s kind depth [] end start
       walk_repeat k l = step_repeat s kind depth g.going.slots end c.at t g.read fitted (sym repeated ∙ sym k ∙ l) ∙ on g.going g.here
 
-      module _ {d : Bool} (k : d ≡ taken_in seen slot) (l : d ≡ false) (a : FieldAnswer) (got : field_says a ≡ with_cursor c.end (value s t c.end)) where
-        pub walk_value : {r : Refusal} (x : WalkAnswer) → a ≡ field_answer.Refused r → walk_says x ≡ silent (field_says a) → walk_says x ≡ walked s kind depth [] end start
-        unfolding silent field_says ◌>>=◌
-        walk_value x e w =
-            w
-            ∙ rw e (step_value s kind depth g.going.slots end c.at t g.read fitted (sym repeated ∙ sym k ∙ l) _
-            (with_cursor_refused end (value s t end) (says field_says (rw g.going.ends at got) e))
-            ∙ on g.going g.here)
+      module _ {d : Bool} (k : d ≡ taken_in seen slot) (l : d ≡ false) (a : Answer (Field × Cursor)) (got : outcome_of a ≡ with_cursor c.end (value s t c.end)) where
+        pub walk_value : {r : Refusal} → a ≡ Err r → fail r ≡ walked s kind depth [] end start
+        unfolding outcome_of
+        walk_value e =
+            step_value s kind depth g.going.slots end c.at t g.read fitted (sym repeated ∙ sym k ∙ l) _
+            (with_cursor_refused end (value s t end) (says outcome_of (rw g.going.ends at got) e))
+            ∙ on g.going g.here
 
-        pub walk_turned : {f : Field} {next : Cursor} → a ≡ field_answer.Read f next → Turned s kind depth start end seen c row slot f next
-        unfolding field_says
+        pub walk_turned : {f : Field} {next : Cursor} → a ≡ Ok (f, next) → Turned s kind depth start end seen c row slot f next
+        unfolding outcome_of
         walk_turned {f} e =
-            let o = with_cursor_read end (value s t end) (says field_says (rw g.going.ends at got) e) in
+            let o = with_cursor_read end (value s t end) (says outcome_of (rw g.going.ends at got) e) in
             let x = passed_tells (λ t. (t.place ≡ c.at) × (c.at < t.next)) (AtTag c.at) (tag s end c.at) t (tag_tells s end c.at) g.read in
             let y = passed_tells (Follows t end) (AtTag t.place) (value s t end) f (value_tells s t end) o.0 in
             record {
@@ -200,31 +186,31 @@ module _ {s : Bytes} {kind : Kind} {depth start end : ℕ} {seen : List ℕ} {c 
               ∙ on u.tagged.going u.tagged.here);
         }
 
-    module _ (x : Content) (e : content_says x ≡ kind_of row) where
-      kinded : kind_of (row_of kind u.t.number) ≡ content_says x
+    module _ (x : code.Option Kind) (e : option_of x ≡ kind_of row) where
+      kinded : kind_of (row_of kind u.t.number) ≡ option_of x
       kinded = ap kind_of (sym u.tagged.rowed) ∙ sym e
 
-      pub walk_closed : x ≡ content.Closed → Going s kind depth start end (set seen slot 1) next
-      unfolding inner contents content_says
-      walk_closed q = goes (rw (kinded ∙ ap content_says q, inner) refl)
+      pub walk_closed : x ≡ None → Going s kind depth start end (set seen slot 1) next
+      unfolding inner contents option_of
+      walk_closed q = goes (rw (kinded ∙ ap option_of q, inner) refl)
 
-      module _ {k : Kind} (q : x ≡ content.Message k) {b : Bool} (deep : b ≡ (has_nodes k && eqb depth 8)) where
+      module _ {k : Kind} (q : x ≡ Some k) {b : Bool} (deep : b ≡ (has_nodes k && eqb depth 8)) where
         pub walk_deep : b ≡ true → refused 6 c.at ≡ walked s kind depth [] end start
-        unfolding inner contents content_says ◌>>◌ refuse◌at:◌when:◌
-        walk_deep t = ap (λ (p : ℕ). refused 6 p) (sym u.placed) ∙ stops _ (rw (kinded ∙ ap content_says q, inner) (rw (sym deep ∙ t) refl))
+        unfolding inner contents option_of ◌>>◌ refuse◌at:◌when:◌
+        walk_deep t = ap (λ (p : ℕ). refused 6 p) (sym u.placed) ∙ stops _ (rw (kinded ∙ ap option_of q, inner) (rw (sym deep ∙ t) refl))
 
-        module _ (l : b ≡ false) {d : ℕ} (m : d ≡ deeper k depth) (w : WalkAnswer) (z : walk_says w ≡ walked s k d [] f.next f.start) where
-          inner_is : inner ≡ walk_says w
-          unfolding inner contents content_says ◌>>◌ refuse◌at:◌when:◌
-          inner_is = rw (kinded ∙ ap content_says q, inner) (rw (sym deep ∙ l, ← m) (sym z))
+        module _ (l : b ≡ false) {d : ℕ} (m : d ≡ deeper k depth) (w : Answer (Unit {0})) (z : outcome_of w ≡ walked s k d [] f.next f.start) where
+          inner_is : inner ≡ outcome_of w
+          unfolding inner contents option_of ◌>>◌ refuse◌at:◌when:◌
+          inner_is = rw (kinded ∙ ap option_of q, inner) (rw (sym deep ∙ l, ← m) (sym z))
 
-          pub walk_inner : w ≡ walk_answer.Sound → Going s kind depth start end (set seen slot 1) next
-          unfolding walk_says
-          walk_inner v = goes (inner_is ∙ ap walk_says v)
+          pub walk_inner : w ≡ (Ok tt) → Going s kind depth start end (set seen slot 1) next
+          unfolding outcome_of
+          walk_inner v = goes (inner_is ∙ ap outcome_of v)
 
-          pub walk_bad : {r : Refusal} → w ≡ walk_answer.Refused r → walk_says w ≡ walked s kind depth [] end start
-          unfolding walk_says
-          walk_bad v = ap walk_says v ∙ stops _ (inner_is ∙ ap walk_says v)
+          pub walk_bad : {r : Refusal} → w ≡ Err r → fail r ≡ walked s kind depth [] end start
+          unfolding outcome_of
+          walk_bad v = stops _ (inner_is ∙ ap outcome_of v)
 
 -- what is opened and not too deep is at most at depth 8
 pub deeper_low : (k : Kind) {depth d : ℕ} {b : Bool} → depth ≤ 8 → b ≡ (has_nodes k && eqb depth 8) → b ≡ false → d ≡ deeper k depth → d ≤ 8

@@ -1,20 +1,7 @@
--- What each answer of the code says, and the numbers that it keeps for slots.
+-- An answer of which the refusal alone counts, and the numbers that the code keeps for slots.
 use Rattle.std.specs.Prelude.{ℕ, min, Bool, ◌&&◌, List, get_or, ltb, eqb}
 use Rattle.std.proofs.Math.Option.{Option, none, some}
-use Rattle.varint.specs.Outcome.{pass, fail, ◌>>=◌, Judged, Rule}
-use Rattle.schema.specs.declared.Kind.{Kind}
-use Rattle.schema.specs.declared.Content.{Content}
-use Rattle.schema.specs.declared.Content.TheVariants as content
-use Rattle.schema.specs.declared.WalkAnswer.{WalkAnswer}
-use Rattle.schema.specs.declared.WalkAnswer.TheVariants as walk
-
-unfoldable pub walk_says : WalkAnswer → Rule
-walk_says walk.Sound = pass tt
-walk_says (walk.Refused r) = fail r
-
-unfoldable pub content_says : Content → Option Kind
-content_says (content.Message k) = some k
-content_says content.Closed = none
+use Rattle.varint.specs.Outcome.{pass, ◌>>=◌, Judged, Rule}
 
 -- An answer of which only the refusal matters.
 unfoldable pub silent : {A : Type 0} → Judged A → Rule

@@ -5,7 +5,6 @@ mod rows;
 mod walks;
 
 pub use rows::row_of;
-use varint::Refusal;
 pub use walks::first_walk;
 
 // The kinds of message that the first walk opens.
@@ -43,27 +42,4 @@ pub enum Row {
     Packable(Holds),
     OneOf(Holds),
     Unknown,
-}
-
-// What stands in a field: a message to be opened, or nothing that the walk looks at.
-#[derive(Drop)]
-pub enum Content {
-    Message(Kind),
-    Closed,
-}
-
-// The model keeps the rules of the wire, or the first that it breaks.
-#[derive(Drop)]
-pub enum WalkAnswer {
-    Sound,
-    Refused(Refusal),
-}
-
-// The numbers of document 01's table that the first walk adds to those of the wire.
-impl WalkAnswer {
-    pub const WRONG_WIRE: u8 = 4;
-
-    pub const REPEATED: u8 = 5;
-
-    pub const TOO_DEEP: u8 = 6;
 }

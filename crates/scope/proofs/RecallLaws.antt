@@ -1,4 +1,5 @@
 -- A scope of which extra cells remember names.
+use Rattle.std.specs.declared.option.Option.{Option}
 use Prim.Native.Nat.{ℕ, zero, suc, ◌-◌, ◌≤◌, ◌<◌}
 use native.Mathlib.Omega.{arith}
 use mathlib.Core.Path.{◌≡◌, refl, sym, ap, ap₂, subst, ◌∙◌}
@@ -9,7 +10,6 @@ use Rattle.wire.specs.Message.{text}
 use Rattle.wire.specs.declared.Field.{Field}
 use Rattle.index.specs.Table.{newest, names_in, seek, Indexed}
 use Rattle.index.specs.Memory.{known, table_of, Remembered}
-use Rattle.index.specs.declared.Found.{Found}
 use Rattle.index.specs.Listing.{Held}
 use Rattle.index.specs.declared.listings.Listing.{Listing}
 use Rattle.index.proofs.UseLaws.{indexed_none}
@@ -34,7 +34,7 @@ recalled {model} {seed} {cells} {extra} m (suc i) h =
 
 -- the search after the names that are not remembered: r is what is recalled
 pub recall_ends : {model : Bytes} {seed : ℕ} {cells extra : List ℕ} → Recalls model seed cells extra → {used : ℕ} {name : Bytes} {i : ℕ}
-    → Searching model cells used name i → i ≤ known extra → {r : Found} → r ≡ seek name (names_in model (table_of extra) i)
+    → Searching model cells used name i → i ≤ known extra → {r : Option ℕ} → r ≡ seek name (names_in model (table_of extra) i)
     → r ≡ seek name (bytes_in model cells used)
 recall_ends m {used} {name} {i} q h e = e ∙ ap (seek name) (recalled m i h) ∙ q.rest
 

@@ -1,4 +1,6 @@
 -- Cells as a stack of names: cleared, read, searched, and one more name stored.
+use Rattle.std.specs.Prelude.{None, Ok, Some}
+use Rattle.std.specs.declared.option.Option.{Option}
 use Prim.Native.Nat.{ℕ, zero, suc, ◌+◌, ◌-◌, ◌*◌, ◌≤◌, ◌<◌, max}
 use native.Mathlib.Omega.{arith}
 use native.Mathlib.Numerals.{add-one}
@@ -8,22 +10,18 @@ use mathlib.Core.List.{List, [], ◌∷◌, ◌++◌, map, append-nil}
 use lib.ListN.{length, take, drop, set, replicate, length-append, length-replicate, length-drop, length-set, drop_of_length-le}
 use lib.Seq.{take-take, take-set-le}
 use lib.Dec.{leb}
-use borrow.Author.Fill.{fill_more}
 use borrow.Author.Tests.{le-leb, lt-leb}
 use Rattle.varint.specs.Outcome.{pass, ◌>>◌, Judged, refused, refused_with, refuse◌at:◌when:◌, refuse◌at:◌first:◌when:◌}
 use Rattle.varint.specs.Bytes.{Bytes, same, member}
 use Rattle.wire.specs.Message.{text}
 use Rattle.wire.specs.declared.Field.{Field}
 use Rattle.index.specs.Table.{seek, since}
-use Rattle.index.specs.declared.Found.{Found}
-use Rattle.index.specs.declared.Found.TheVariants as found
 use Rattle.index.proofs.UseLaws.{seek_member}
 use Rattle.rules.specs.Names.{Name, name_in}
 use Rattle.rules.specs.Walk.{Walk, with_name, visible, defined_at, define}
 use Rattle.rules.specs.Verdict.{WIDTH, room, fills}
 use Rattle.scope.specs.Scope.{place_in, stored, first_in, name_at, recorded, scope_in, bytes_in, walk_in, step_says, Direct, Keeps}
 use Rattle.scope.specs.declared.scopes.Progress.{Progress}
-use Rattle.scope.specs.declared.scopes.Step.TheVariants as step
 use Rattle.scope.proofs.RecordLaws.{placed_prefix, recorded_by, recorded_other, recorded_same, name_direct}
 
 -- ---- clearing: the first `i` cells are cleared
@@ -31,9 +29,6 @@ use Rattle.scope.proofs.RecordLaws.{placed_prefix, recorded_by, recorded_other, 
 module _ (d l : List ℕ) (i : ℕ) (le : i ≤ length d) (e : l ≡ replicate i 0 ++ drop i d) where
   pub fill_length : length l ≡ length d
   fill_length = rw e (simp (length-append, length-replicate, length-drop) (omega arith))
-
-  pub fill_turn : i < length l → set l i 0 ≡ replicate (i + 1) 0 ++ drop (i + 1) d
-  fill_turn h = rw e (fill_more i 0 d (omega (arith, fill_length)))
 
   pub fill_done : length l ≤ i → l ≡ replicate (length d) 0
   fill_done h =
@@ -84,16 +79,16 @@ search_start model cells used name = record { rest = refl }
 -- t is the answer of the comparison with the last record
 module _ {model : Bytes} {cells : List ℕ} {used : ℕ} {name : Bytes} {i : ℕ} (q : Searching model cells used name i) (h : 0 < i) (t : Bool)
     (et : t ≡ same name (recorded model cells (i - 1)).bytes) where
-  search_by : elim t [ true ↦ found.At (i - 1) | false ↦ seek name (bytes_in model cells (i - 1)) ] ≡ seek name (bytes_in model cells used)
+  search_by : elim t [ true ↦ Some (i - 1) | false ↦ seek name (bytes_in model cells (i - 1)) ] ≡ seek name (bytes_in model cells used)
   unfolding seek
   search_by =
-      ap (λ (u : Bool). elim u [ true ↦ found.At (i - 1) | false ↦ seek name (bytes_in model cells (i - 1)) ]) et
-      ∙ ap (λ (n : ℕ). elim (same name (recorded model cells (i - 1)).bytes) [ true ↦ found.At n | false ↦ seek name (bytes_in model cells (i - 1)) ])
+      ap (λ (u : Bool). elim u [ true ↦ Some (i - 1) | false ↦ seek name (bytes_in model cells (i - 1)) ]) et
+      ∙ ap (λ (n : ℕ). elim (same name (recorded model cells (i - 1)).bytes) [ true ↦ Some n | false ↦ seek name (bytes_in model cells (i - 1)) ])
       (sym (bytes_length model cells (i - 1)))
       ∙ ap (seek name) (sym (bytes_top model cells i h))
       ∙ q.rest
 
-  pub search_here : t ≡ true → found.At (i - 1) ≡ seek name (bytes_in model cells used)
+  pub search_here : t ≡ true → Some (i - 1) ≡ seek name (bytes_in model cells used)
   search_here e = rw e at search_by
 
   pub search_next : t ≡ false → Searching model cells used name (i - 1)
@@ -120,14 +115,14 @@ found_first model cells zero x = refl
 found_first model cells (suc n) x = go (same x (recorded model cells n).bytes) (bytes_length model cells n) (found_first model cells n x)
   where
     go : (b : Bool) → length (bytes_in model cells n) ≡ n → first_in cells (seek x (bytes_in model cells n)) ≡ defined_at x (scope_in model cells n)
-        → first_in cells (elim b [ true ↦ found.At (length (bytes_in model cells n)) | false ↦ seek x (bytes_in model cells n) ])
+        → first_in cells (elim b [ true ↦ Some (length (bytes_in model cells n)) | false ↦ seek x (bytes_in model cells n) ])
         ≡ elim b [ true ↦ (recorded model cells n).place | false ↦ defined_at x (scope_in model cells n) ]
     go true e ih = ap (place_in cells) e ∙ recorded_place model cells n
     go false e ih = ih
 
 -- ---- a new name: x are its bytes, r the answer of the search for them
 
-module _ (model : Bytes) (cells : List ℕ) (p : Progress) (f : Field) (x : Bytes) (ex : x ≡ text model f) (r : Found)
+module _ (model : Bytes) (cells : List ℕ) (p : Progress) (f : Field) (x : Bytes) (ex : x ≡ text model f) (r : Option ℕ)
     (er : r ≡ seek x (bytes_in model cells p.used)) where
   abbrev Defining : Judged Walk
   Defining = define (fills (length cells)) (walk_in model cells p) (name_in model f)
@@ -153,11 +148,13 @@ module _ (model : Bytes) (cells : List ℕ) (p : Progress) (f : Field) (x : Byte
       refuse 23 at: f.place first: first_in cells r when: since 0 r >> (refuse 40 at: f.place when: leb (room (length cells)) n >> pass New))
       (scope_length model cells p.used)
 
-  pub define_twice : {i : ℕ} → r ≡ found.At i → refused_with 23 f.place (first_in cells r) ≡ Defining
-  unfolding ◌>>◌ refuse◌at:◌first:◌when:◌ since
-  define_twice {i} e = sym (define_by ∙ ap (After (first_in cells r)) (ap (since 0) e ∙ le-leb 0 i (omega arith)))
+  pub define_twice : {i : ℕ} → r ≡ Some i → refused_with 23 f.place (place_in cells i) ≡ Defining
+  unfolding ◌>>◌ refuse◌at:◌first:◌when:◌ since first_in
+  define_twice {i} e =
+      ap (λ (x : Option ℕ). refused_with 23 f.place (first_in cells x)) (sym e)
+      ∙ sym (define_by ∙ ap (After (first_in cells r)) (ap (since 0) e ∙ le-leb 0 i (omega arith)))
 
-  module _ (e : r ≡ found.Missing) where
+  module _ (e : r ≡ None) where
     missing : Defining ≡ (refuse 40 at: f.place when: leb (room (length cells)) p.used >> pass New)
     unfolding ◌>>◌ refuse◌at:◌first:◌when:◌ since
     missing = define_by ∙ ap (After (first_in cells r)) (ap (since 0) e)
@@ -168,7 +165,7 @@ module _ (model : Bytes) (cells : List ℕ) (p : Progress) (f : Field) (x : Byte
 
     module _ (d : Direct model f) (later : List ℕ) (el : later ≡ stored cells p.used f.place (f.next - f.start)) (m : ℕ)
         (em : m ≡ max p.most (p.used + 1)) (h : p.used < room (length cells)) where
-      pushed : step_says model later (step.Went (record { used = p.used + 1; nodes = p.nodes; most = m; odd = p.odd })) ≡ pass New
+      pushed : step_says model later (Ok (record { used = p.used + 1; nodes = p.nodes; most = m; odd = p.odd })) ≡ pass New
       unfolding step_says with_name walk_in
       pushed =
           ap (λ (l : List ℕ). pass (record { scope = scope_in model l (p.used + 1); nodes = p.nodes; most = m; odd = p.odd })) el
@@ -177,7 +174,7 @@ module _ (model : Bytes) (cells : List ℕ) (p : Progress) (f : Field) (x : Byte
           ∙ ap (λ (n : ℕ). pass (record { scope = name_in model f ∷ scope_in model cells p.used; nodes = p.nodes; most = n; odd = p.odd }))
           (em ∙ ap (λ (n : ℕ). max p.most (n + 1)) (sym (scope_length model cells p.used)))
 
-      pub define_new : step_says model later (step.Went (record { used = p.used + 1; nodes = p.nodes; most = m; odd = p.odd })) ≡ Defining
+      pub define_new : step_says model later (Ok (record { used = p.used + 1; nodes = p.nodes; most = m; odd = p.odd })) ≡ Defining
       unfolding ◌>>◌ refuse◌at:◌when:◌
       define_new = pushed ∙ sym (rw (lt-leb _ _ h) at missing)
 

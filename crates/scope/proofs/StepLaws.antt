@@ -1,4 +1,6 @@
 -- A rule that adds names for each field of one number, as a loop tests it.
+use Rattle.std.specs.Prelude.{Err, None, Ok, Some}
+use Rattle.varint.specs.Answers.{Answer}
 use Prim.Native.Nat.{ℕ, ◌+◌, ◌≤◌, ◌<◌, ◌-◌}
 use native.Mathlib.Omega.{arith}
 use mathlib.Core.Path.{◌≡◌, refl, sym, ap, subst, ◌∙◌}
@@ -6,16 +8,14 @@ use mathlib.Core.Bool.{Bool}
 use mathlib.Core.List.{List, [], flat_map, Memᴰ}
 use mathlib.Core.Option.{some}
 use lib.ListN.{length, length-append}
-use Rattle.varint.specs.Outcome.{pass, Judged}
+use Rattle.varint.specs.Outcome.{pass, fail, Judged}
 use Rattle.varint.specs.Bytes.{Bytes}
 use Rattle.wire.specs.Wire.{field}
 use Rattle.wire.specs.Message.{all_of, message}
-use Rattle.wire.specs.Answers.{sought_says, contents_of, sought_in}
+use Rattle.wire.specs.Answers.{sought_says, contents_of, sought_in, Sought}
 use Rattle.varint.specs.declared.Refusal.{Refusal}
 use Rattle.wire.specs.declared.Field.{Field}
 use Rattle.wire.specs.declared.Cursor.{Cursor}
-use Rattle.wire.specs.declared.Sought.{Sought}
-use Rattle.wire.specs.declared.Sought.TheVariants as sought
 use Rattle.varint.proofs.Answers.{says}
 use Rattle.varint.proofs.Passing.{passed_tells}
 use Rattle.varint.proofs.Tells.{Tells, Any, tells_weaken}
@@ -30,12 +30,8 @@ use Rattle.rules.specs.Count.{odds}
 use Rattle.rules.proofs.Counting.{Grew}
 use Rattle.rules.proofs.NamesFew.{odds_few}
 use Rattle.values.specs.Answers.{more, tally_says, Addable}
-use Rattle.values.specs.declared.tallies.Tally.{Tally}
-use Rattle.values.specs.declared.tallies.Tally.TheVariants as tally
-use Rattle.scope.specs.Scope.{walk_in, step_says, with_odd, counting, Countable, grows, Direct, Keeps}
+use Rattle.scope.specs.Scope.{walk_in, step_says, with_odd, counting, Countable, grows, counted, Direct, Keeps}
 use Rattle.scope.specs.declared.scopes.Progress.{Progress}
-use Rattle.scope.specs.declared.scopes.Step.{Step}
-use Rattle.scope.specs.declared.scopes.Step.TheVariants as step
 use Rattle.scope.proofs.RecordLaws.{OfBytes, name_there}
 use Rattle.scope.proofs.ScopeLaws.{keeps_all, keeps_fewer, keeps_then}
 
@@ -59,11 +55,11 @@ pub record Adding (model : Bytes) (number end start : ℕ) (names : Field → Li
 module _ {model : Bytes} {number end start : ℕ} {names : Field → List Bytes} {rule : Adder} {o : Judged Walk}
     {first : List ℕ} {p : Progress} {cells : List ℕ} {q : Progress} {c : Cursor}
     (g : Adding model number end start names rule o first p cells q c) {a : Sought} (read : sought_says a ≡ sought_in model number c.end c.at) where
-  pub adding_done : a ≡ sought.Missing → (step_says model cells (step.Went q) ≡ o) × (grows p (step.Went q) × Keeps p.used first cells)
+  pub adding_done : a ≡ None → (step_says model cells (Ok q) ≡ o) × (grows p (Ok q) × Keeps p.used first cells)
   unfolding step_says grows
   adding_done e = (sym (along_done g.along read e), (g.grown, g.kept))
 
-  module _ {f : Field} {next : Cursor} (e : a ≡ sought.Found f next) where
+  module _ {f : Field} {next : Cursor} (e : a ≡ Some (f, next)) where
     pub adding_falls : end - next.at < end - c.at
     adding_falls = along_falls g.along read e
 
@@ -99,7 +95,7 @@ module _ {model : Bytes} {number end start : ℕ} {names : Field → List Bytes}
       adding_direct row = name_there w row adding_among (subst (λ (d : Cursor). field model d.end f.place ≡ pass f) at adding_read)
 
     -- r is the answer for the field, with the cells `later`
-    module _ {later : List ℕ} (r : Step) (answer : step_says model later r ≡ rule (length cells) (walk_in model cells q) f) (more : grows q r)
+    module _ {later : List ℕ} (r : Answer Progress) (answer : step_says model later r ≡ rule (length cells) (walk_in model cells q) f) (more : grows q r)
         (kept : Keeps q.used cells later) where
       sized : step_says model later r ≡ rule (length first) (walk_in model cells q) f
       sized = answer ∙ ap (λ (n : ℕ). rule n (walk_in model cells q) f) g.kept.size
@@ -107,11 +103,11 @@ module _ {model : Bytes} {number end start : ℕ} {names : Field → List Bytes}
       still : Keeps p.used first later
       still = keeps_then g.kept (keeps_fewer g.grown kept)
 
-      pub adding_stops : {x : Refusal} → r ≡ step.Refused x → (step_says model later r ≡ o) × (grows p r × Keeps p.used first later)
+      pub adding_stops : {x : Refusal} → r ≡ Err x → (step_says model later r ≡ o) × (grows p r × Keeps p.used first later)
       unfolding step_says grows
       adding_stops {x} k = (ap (step_says model later) k ∙ sym (along_fails g.along read e (sym (says (step_says model later) sized k))), (rw k tt, still))
 
-      pub adding_goes : Counts names rule → {u : Progress} → r ≡ step.Went u → Adding model number end start names rule o first p later u next
+      pub adding_goes : Counts names rule → {u : Progress} → r ≡ Ok u → Adding model number end start names rule o first p later u next
       unfolding step_says grows walk_in
       adding_goes count {u} k = record {
         along = along_goes g.along read e (sym (says (step_says model later) sized k));
@@ -141,37 +137,52 @@ adding_start model number names rule first p c a = record { along = a; grown = o
 abbrev pub plain : Bool → Context
 plain main = record { imports = []; main = main; ir_version = 0; attributes = [] }
 
+-- ---- a refusal
+
+-- It says so whatever the cells, and no name is added.
+pub refused_says : {r : Answer Progress} {x : Refusal} → r ≡ Err x → (model : Bytes) (cells : List ℕ) → step_says model cells r ≡ fail x
+unfolding step_says
+refused_says e model cells = ap (step_says model cells) e
+
+pub refused_grows : {r : Answer Progress} {x : Refusal} → r ≡ Err x → (p : Progress) → grows p r
+unfolding grows
+refused_grows e p = rw e tt
+
+pub refused_counts : {r : Answer Progress} {x : Refusal} → r ≡ Err x → (f : Field) (p : Progress) → counted f p r
+unfolding counted
+refused_counts e f p = rw e tt
+
 -- ---- the step of a tally
 
 -- it says what the tally says of the walk
-pub counting_says : (model : Bytes) (cells : List ℕ) (p : Progress) (t : Tally) → step_says model cells (counting p t) ≡ tally_says (walk_in model cells p) t
+pub counting_says : (model : Bytes) (cells : List ℕ) (p : Progress) (t : Answer ℕ) → step_says model cells (counting p t) ≡ tally_says (walk_in model cells p) t
 unfolding counting step_says tally_says walk_in with_odd more
-counting_says model cells p (tally.Counted k) = refl
-counting_says model cells p (tally.Refused r) = refl
+counting_says model cells p (Ok k) = refl
+counting_says model cells p (Err r) = refl
 
-pub counting_grows : (p : Progress) (t : Tally) → grows p (counting p t)
+pub counting_grows : (p : Progress) (t : Answer ℕ) → grows p (counting p t)
 unfolding counting grows with_odd
-counting_grows p (tally.Counted k) = omega arith
-counting_grows p (tally.Refused r) = tt
+counting_grows p (Ok k) = omega arith
+counting_grows p (Err r) = tt
 
 -- there is room for it where there is room for the names that it counts
-pub countable_adds : (p : Progress) (t : Tally) (names : List Bytes) → ((l : ℕ) → t ≡ tally.Counted l → l ≤ length names) → Countable p names → Addable p.odd t
+pub countable_adds : (p : Progress) (t : Answer ℕ) (names : List Bytes) → ((l : ℕ) → t ≡ Ok l → l ≤ length names) → Countable p names → Addable p.odd t
 unfolding Countable Addable
-countable_adds p (tally.Counted l) names g h = let n = g l refl in omega arith
-countable_adds p (tally.Refused r) names g h = tt
+countable_adds p (Ok l) names g h = let n = g l refl in omega arith
+countable_adds p (Err r) names g h = tt
 
 -- it adds no more than that, and leaves the rest as it was
-unfoldable pub Few : Progress → ℕ → Step → Type 0
-Few p n (step.Went q) = (q.used ≡ p.used) × (q.nodes ≡ p.nodes) × (q.odd ≤ p.odd + n)
-Few p n (step.Refused r) = Unit {0}
+unfoldable pub Few : Progress → ℕ → Answer Progress → Type 0
+Few p n (Ok q) = (q.used ≡ p.used) × (q.nodes ≡ p.nodes) × (q.odd ≤ p.odd + n)
+Few p n (Err r) = Unit {0}
 
-few_counting : (p : Progress) (t : Tally) (n : ℕ) → ((l : ℕ) → t ≡ tally.Counted l → l ≤ n) → Few p n (counting p t)
+few_counting : (p : Progress) (t : Answer ℕ) (n : ℕ) → ((l : ℕ) → t ≡ Ok l → l ≤ n) → Few p n (counting p t)
 unfolding Few counting with_odd
-few_counting p (tally.Counted k) n few = let h = few k refl in (refl, refl, omega arith)
-few_counting p (tally.Refused r) n few = tt
+few_counting p (Ok k) n few = let h = few k refl in (refl, refl, omega arith)
+few_counting p (Err r) n few = tt
 
-pub counting_few : (p : Progress) (t : Tally) (n : ℕ) → ((l : ℕ) → t ≡ tally.Counted l → l ≤ n) → {s : Step} → s ≡ counting p t
-    → {q : Progress} → s ≡ step.Went q → (q.used ≡ p.used) × (q.nodes ≡ p.nodes) × (q.odd ≤ p.odd + n)
+pub counting_few : (p : Progress) (t : Answer ℕ) (n : ℕ) → ((l : ℕ) → t ≡ Ok l → l ≤ n) → {s : Answer Progress} → s ≡ counting p t
+    → {q : Progress} → s ≡ Ok q → (q.used ≡ p.used) × (q.nodes ≡ p.nodes) × (q.odd ≤ p.odd + n)
 unfolding Few
 counting_few p t n few e i = subst (Few p n) (sym e ∙ i) (few_counting p t n few)
 
@@ -191,10 +202,10 @@ module _ (p : Progress) {q : Progress} (j : ℕ) (e : q ≡ with_odd p j) where
   unfolding with_odd walk_in more
   odd_walk model cells = ap (walk_in model cells) e
 
-  pub odd_grows : (s : Step) → grows q s → grows p s
+  pub odd_grows : (s : Answer Progress) → grows q s → grows p s
   unfolding grows
-  odd_grows (step.Went v) g = let u = odd_used in omega arith
-  odd_grows (step.Refused r) g = tt
+  odd_grows (Ok v) g = let u = odd_used in omega arith
+  odd_grows (Err r) g = tt
 
   pub odd_keeps : {before after : List ℕ} → Keeps q.used before after → Keeps p.used before after
   odd_keeps k = rw odd_used at k

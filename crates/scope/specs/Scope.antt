@@ -1,6 +1,8 @@
 -- How lent cells hold what is visible: a record is the place of the field that holds a name, and the length of the name. No rule speaks
 -- of this; contracts of the code do.
-use Rattle.std.specs.Prelude.{ℕ, zero, suc, ◌+◌, ◌-◌, ◌*◌, ◌^◌, ◌≤◌, ◌<◌, ◌≡◌, true, false, List, [], ◌∷◌, map, length, take, get_or, set, leb}
+use Rattle.std.specs.declared.option.Option.{Option}
+use Rattle.varint.specs.Answers.{Answer}
+use Rattle.std.specs.Prelude.{ℕ, zero, suc, ◌+◌, ◌-◌, ◌*◌, ◌^◌, ◌≤◌, ◌<◌, ◌≡◌, true, false, List, [], ◌∷◌, map, length, take, get_or, set, leb, Err, None, Ok, Some}
 use Rattle.varint.specs.Outcome.{pass, fail, Judged}
 use Rattle.wire.specs.declared.Field.{Field}
 use Rattle.varint.specs.Bytes.{Bytes, part, member}
@@ -9,18 +11,10 @@ use Rattle.wire.specs.Encoding.{contents_at}
 use Rattle.schema.specs.declared.Kind.{Kind}
 use Rattle.schema.specs.Opened.{Walked}
 use Rattle.index.specs.Table.{seek, since}
-use Rattle.index.specs.declared.Found.{Found}
-use Rattle.index.specs.declared.Found.TheVariants as found
 use Rattle.rules.specs.Names.{Name, inputs_of}
 use Rattle.rules.specs.Walk.{Walk}
 use Rattle.rules.specs.Verdict.{WIDTH}
-use Rattle.values.specs.declared.Ruling.{Ruling}
-use Rattle.values.specs.declared.Ruling.TheVariants as ruling
-use Rattle.values.specs.declared.tallies.Tally.{Tally}
-use Rattle.values.specs.declared.tallies.Tally.TheVariants as tally
 use Rattle.scope.specs.declared.scopes.Progress.{Progress}
-use Rattle.scope.specs.declared.scopes.Step.{Step}
-use Rattle.scope.specs.declared.scopes.Step.TheVariants as step
 
 -- "Each scope record now holds place and length": those of record i. A cell that is not there reads as 0.
 unfoldable pub place_in : (cells : List ℕ) → (i : ℕ) → ℕ
@@ -34,9 +28,9 @@ unfoldable pub stored : (cells : List ℕ) → (i place len : ℕ) → List ℕ
 stored cells i place len = set (set cells (WIDTH * i) place) (WIDTH * i + 1) len
 
 -- The place in the record that was found.
-unfoldable pub first_in : (cells : List ℕ) → Found → ℕ
-first_in cells (found.At i) = place_in cells i
-first_in cells found.Missing = 0
+unfoldable pub first_in : (cells : List ℕ) → Option ℕ → ℕ
+first_in cells (Some i) = place_in cells i
+first_in cells None = 0
 
 module _ (model : Bytes) where
   -- The name of a record: so many bytes after the tag and the length; where the model ends before that, the empty name.
@@ -63,23 +57,18 @@ module _ (model : Bytes) where
   walk_in cells p = record { scope = scope_in cells p.used; nodes = p.nodes; most = p.most; odd = p.odd }
 
   -- What an answer says, with the cells as they are after it.
-  unfoldable pub step_says : (cells : List ℕ) → Step → Judged Walk
-  step_says cells (step.Went p) = pass (walk_in cells p)
-  step_says cells (step.Refused r) = fail r
-
--- The step of a rule that adds no name: the walk stays where it is.
-unfoldable pub standing : Progress → Ruling → Step
-standing p ruling.Kept = step.Went p
-standing p (ruling.Refused r) = step.Refused r
+  unfoldable pub step_says : (cells : List ℕ) → Answer Progress → Judged Walk
+  step_says cells (Ok p) = pass (walk_in cells p)
+  step_says cells (Err r) = fail r
 
 -- So many odd names more.
 unfoldable pub with_odd : Progress → ℕ → Progress
 with_odd p k = record { used = p.used; nodes = p.nodes; most = p.most; odd = p.odd + k }
 
 -- The step of a rule that tests names and adds none.
-unfoldable pub counting : Progress → Tally → Step
-counting p (tally.Counted k) = step.Went (with_odd p k)
-counting p (tally.Refused r) = step.Refused r
+unfoldable pub counting : Progress → Answer ℕ → Answer Progress
+counting p (Ok k) = Ok (with_odd p k)
+counting p (Err r) = Err r
 
 -- There is room in 64 bits to count every one of these names.
 unfoldable pub Countable : Progress → List Bytes → Type 0
@@ -90,9 +79,9 @@ unfoldable pub left : (before after : Progress) → Progress
 left before after = record { used = before.used; nodes = after.nodes; most = after.most; odd = after.odd }
 
 -- Names are added, and none is taken away.
-unfoldable pub grows : Progress → Step → Type 0
-grows p (step.Went q) = p.used ≤ q.used
-grows p (step.Refused r) = Unit {0}
+unfoldable pub grows : Progress → Answer Progress → Type 0
+grows p (Ok q) = p.used ≤ q.used
+grows p (Err r) = Unit {0}
 
 -- A name that a record can hold: it lies in the model, and its bytes are found by place and length.
 pub record Direct (model : Bytes) (name : Field) : Type 0 where
@@ -110,9 +99,9 @@ pub record Enters (model : Bytes) (kind : Kind) (p : Progress) (f : Field) : Typ
   pub few : p.nodes + f.next ≤ f.place + 2 ^ 33
 
 -- What is counted of a field are no more nodes than it has bytes.
-unfoldable pub counted : Field → Progress → Step → Type 0
-counted f p (step.Went q) = q.nodes + f.place ≤ p.nodes + f.next
-counted f p (step.Refused r) = Unit {0}
+unfoldable pub counted : Field → Progress → Answer Progress → Type 0
+counted f p (Ok q) = q.nodes + f.place ≤ p.nodes + f.next
+counted f p (Err r) = Unit {0}
 
 -- What stays of the cells: their number, and the records in use.
 pub record Keeps (used : ℕ) (before after : List ℕ) : Type 0 where

@@ -6,6 +6,4 @@ mod remembered;
 mod scopes;
 
 pub use remembered::{Index, define, list, sees, sees_since};
-pub use scopes::{
-    Progress, Step, clear, clear_both, counting, leaving, room, standing, stopped, with_odd,
-};
+pub use scopes::{Progress, clear, clear_both, counting, leaving, room, with_odd};

@@ -12,13 +12,10 @@ ghost use Rattle.index.specs.Memory.{known};
 ghost use Rattle.scope.specs.Scope.{recorded, scope_in, bytes_in, walk_in, step_says, grows, Direct, Keeps};
 ghost use Rattle.scope.specs.Recall.{Recalls, Recalling, Recalled, Remembering, RememberedOn, AddedOn};
 
-use crate::scopes::{
-    Progress, Step, contents_at, length_at, max, place_at, repeated, room, stopped, store,
-};
+use crate::scopes::{Progress, contents_at, length_at, place_at, repeated, room, store};
 use headers::{Imports, list_name};
-use index::{Found, Listing, known, recall, remember_name};
-use values::Ruling;
-use varint::{between, same_bytes};
+use index::{Listing, known, recall, remember_name, since};
+use varint::{Refusal, between, refused, same_bytes};
 use wire::Field;
 
 // How the extra cells are used: the caller's seed, how many of them are for the scope, and what the rest holds of the imports, and of the attributes of the
@@ -45,23 +42,35 @@ fn is_named(model: &[u8], cells: &[u32], i: usize, name: &[u8]) -> bool
 }
 
 // The newest of the first `used` records that has the name; `names` remembers some of them.
-fn find_in(model: &[u8], cells: &[u32], names: &[u32], seed: u64, used: usize, name: &[u8]) -> Found
+fn find_in(
+    model: &[u8],
+    cells: &[u32],
+    names: &[u32],
+    seed: u64,
+    used: usize,
+    name: &[u8],
+) -> Option<usize>
     requires recalls { Recalls model.now seed cells.now names.now }
     requires name_value { is_empty name.now ≡ false }
     ensures { result ≡ seek name.now (bytes_in model.now cells.now used) }
 {
     let kept = known(names);
-    let mut i = used;
-    while kept < i {
-        i -= 1;
+    for i in (kept..used).rev() {
         if is_named(model, cells, i, name) {
-            return Found::At(i);
+            return Some(i);
         }
     }
-    recall(model, names, seed, i, name)
+    recall(model, names, seed, kept.min(used), name)
 }
 
-fn find(model: &[u8], cells: &[u32], extra: &[u32], ix: Index, used: usize, name: &[u8]) -> Found
+fn find(
+    model: &[u8],
+    cells: &[u32],
+    extra: &[u32],
+    ix: Index,
+    used: usize,
+    name: &[u8],
+) -> Option<usize>
     requires recalling { Recalling model.now ix cells.now extra.now }
     requires name_value { is_empty name.now ≡ false }
     ensures { result ≡ seek name.now (bytes_in model.now cells.now used) }
@@ -76,7 +85,7 @@ pub fn sees(model: &[u8], cells: &[u32], extra: &[u32], ix: Index, used: usize, 
     requires name_value { is_empty name.now ≡ false }
     ensures { result ≡ visible name.now (scope_in model.now cells.now used) }
 {
-    find(model, cells, extra, ix, used, name).since(0)
+    since(find(model, cells, extra, ix, used, name), 0)
 }
 
 // Is it among those of the records from `outer` on, up to `inner`?
@@ -93,7 +102,7 @@ pub fn sees_since(
     requires name_value { is_empty name.now ≡ false }
     ensures { result ≡ since outer (seek name.now (bytes_in model.now cells.now inner)) }
 {
-    find(model, cells, extra, ix, inner, name).since(outer)
+    since(find(model, cells, extra, ix, inner, name), outer)
 }
 
 // The name in a field is that of the record at `place`.
@@ -132,7 +141,7 @@ pub fn define(
     ix: Index,
     p: Progress,
     name: Field,
-) -> Step
+) -> Result<Progress, Refusal>
     requires direct { Direct model.now name }
     requires name_value { is_empty (text model.now name) ≡ false }
     requires model_len_bound { length model.now < 2 ^ 32 }
@@ -144,20 +153,19 @@ pub fn define(
 {
     let used = p.used;
     let place = name.place;
-    let found = find(model, cells, extra, ix, used, name.text(model));
-    let Found::Missing = found else {
-        return repeated(cells, place, found);
-    };
+    if let Some(i) = find(model, cells, extra, ix, used, name.text(model)) {
+        return repeated(cells, place, i);
+    }
     if room(cells.len()) <= used {
-        return stopped(Ruling::CELLS_FULL, place);
+        return refused(Refusal::CELLS_FULL, place);
     }
     store(cells, used, place, name.next - name.start);
     remember(model, extra, ix, used, name);
     let more = used + 1;
-    Step::Went(Progress {
+    Ok(Progress {
         used: more,
         nodes: p.nodes,
-        most: max(p.most, more),
+        most: p.most.max(more),
         odd: p.odd,
     })
 }

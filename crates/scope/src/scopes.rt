@@ -1,17 +1,15 @@
 // The scope of the second walk, in cells that the caller lends: a record holds the place of the field that holds a name and the length
 // of the name, and the first `used` records are in use. What they mean stands in specs/Scope.antt.
-ghost use Rattle.std.specs.Prelude.{◌≡◌, ℕ, ◌+◌, ◌*◌, ◌^◌, ◌≤◌, ◌<◌, max, true, List, length, get_or, replicate};
-ghost use Rattle.varint.specs.Outcome.{refused, refused_with};
+ghost use Rattle.std.specs.Prelude.{◌≡◌, ℕ, ◌+◌, ◌*◌, ◌^◌, ◌≤◌, ◌<◌, true, List, length, get_or, replicate};
+ghost use Rattle.varint.specs.Outcome.{refused_with};
 ghost use Rattle.varint.specs.Bytes.{Bytes};
 ghost use Rattle.varint.specs.Encoding.{encode};
 ghost use Rattle.wire.specs.Encoding.{contents_at};
 ghost use Rattle.rules.specs.Verdict.{WIDTH as width, room};
-ghost use Rattle.scope.specs.Scope.{place_in, length_in, stored, first_in, step_says, standing, with_odd, counting, left, grows};
+ghost use Rattle.scope.specs.Scope.{place_in, length_in, stored, step_says, with_odd, counting, left, grows};
 ghost use Rattle.values.specs.Answers.{Addable};
 ghost use Rattle.scope.specs.declared.scopes.Progress.{Progress};
 
-use index::Found;
-use values::{Ruling, Tally};
 use varint::Refusal;
 
 // How many cells a record takes.
@@ -30,14 +28,8 @@ pub struct Progress {
     pub odd: u64,
 }
 
-// How far it comes with one rule more, or why that is broken.
-#[derive(Drop)]
-pub enum Step {
-    Went(Progress),
-    Refused(Refusal),
-}
-
 // How many names so many cells hold.
+#[tactic(auto, unfolding(rules::specs::Verdict::WIDTH, rules::specs::Verdict::room))]
 pub fn room(cells: usize) -> usize
     ensures { result ≡ room cells }
 {
@@ -45,6 +37,7 @@ pub fn room(cells: usize) -> usize
 }
 
 // A cell of a record, or 0 where it is not there. A number of no record is not multiplied, since that could overflow.
+#[tactic(auto, unfolding(rules::specs::Verdict::WIDTH))]
 fn cell_at(cells: &[u32], i: usize, offset: usize) -> usize
     requires { offset < width }
     ensures { (result ≡ get_or cells.now (width * i + offset) 0) × (result < 2 ^ 32) }
@@ -59,12 +52,14 @@ fn cell_at(cells: &[u32], i: usize, offset: usize) -> usize
     0
 }
 
+#[tactic(auto, unfolding(rules::specs::Verdict::WIDTH, crate::specs::Scope::place_in))]
 pub(crate) fn place_at(cells: &[u32], i: usize) -> usize
     ensures { (result ≡ place_in cells.now i) × (result < 2 ^ 32) }
 {
     cell_at(cells, i, 0)
 }
 
+#[tactic(auto, unfolding(rules::specs::Verdict::WIDTH, crate::specs::Scope::length_in))]
 pub(crate) fn length_at(cells: &[u32], i: usize) -> usize
     ensures { (result ≡ length_in cells.now i) × (result < 2 ^ 32) }
 {
@@ -123,32 +118,19 @@ fn all_zero(cells: &[u32]) -> bool
     ensures { result ≡ true → cells.now ≡ replicate (length cells.now) 0 }
 {
     let mut zero = true;
-    let mut i = 0;
-    while i < cells.len() {
-        zero = still_zero(zero, cells[i]);
-        i += 1;
+    for cell in cells {
+        zero = still_zero(zero, *cell);
     }
     zero
-}
-
-fn write_zeros(cells: &mut [u32])
-    ensures { cells.new ≡ replicate (length cells.old) 0 }
-{
-    let mut i = 0;
-    while i < cells.len() {
-        cells[i] = 0;
-        i += 1;
-    }
 }
 
 // Zeros are not written over zeros: memory that the system has zeroed becomes real only where it is written.
 fn clear_part(cells: &mut [u32])
     ensures { cells.new ≡ replicate (length cells.old) 0 }
 {
-    if all_zero(cells) {
-        return;
+    if !all_zero(cells) {
+        cells.fill(0);
     }
-    write_zeros(cells);
 }
 
 fn part_end(at: usize, end: usize) -> usize
@@ -181,53 +163,21 @@ pub fn clear_both(cells: &mut [u32], extra: &mut [u32])
     clear(extra);
 }
 
-pub(crate) fn max(a: usize, b: usize) -> usize
-    ensures { result ≡ max a b }
-{
-    if a < b {
-        return b;
-    }
-    a
-}
-
-pub fn stopped(number: u8, place: usize) -> Step
-    ensures answer { (model : Bytes) (cells : List ℕ) → step_says model cells result ≡ refused number place }
+// A name that record `i` has already.
+#[tactic(auto, unfolding(crate::specs::Scope::grows, crate::specs::Scope::step_says))]
+pub(crate) fn repeated(cells: &[u32], place: usize, i: usize) -> Result<Progress, Refusal>
+    ensures answer { (model : Bytes) (later : List ℕ) → step_says model later result ≡ refused_with 23 place (place_in cells.now i) }
     ensures grown { (p : Progress) → grows p result }
 {
-    Step::Refused(Refusal {
-        number: number,
-        place: place,
-        first: 0,
+    Err(Refusal {
+        number: Refusal::ALREADY_VISIBLE,
+        place,
+        first: place_at(cells, i),
     })
-}
-
-// A name that was found among the visible ones.
-pub(crate) fn repeated(cells: &[u32], place: usize, found: Found) -> Step
-    ensures answer { (model : Bytes) (later : List ℕ) → step_says model later result ≡ refused_with 23 place (first_in cells.now found) }
-    ensures grown { (p : Progress) → grows p result }
-{
-    let first = match found {
-        Found::At(i) => place_at(cells, i),
-        Found::Missing => 0,
-    };
-    Step::Refused(Refusal {
-        number: Ruling::ALREADY_VISIBLE,
-        place: place,
-        first: first,
-    })
-}
-
-// A rule that adds no name.
-pub fn standing(p: Progress, ruling: Ruling) -> Step
-    ensures { result ≡ standing p ruling }
-{
-    match ruling {
-        Ruling::Kept => Step::Went(p),
-        Ruling::Refused(r) => Step::Refused(r),
-    }
 }
 
 // So many odd names more.
+#[tactic(auto, unfolding(crate::specs::Scope::with_odd))]
 pub fn with_odd(p: Progress, odd: u64) -> Progress
     requires { p.odd + odd < 2 ^ 64 }
     ensures { result ≡ with_odd p odd }
@@ -241,17 +191,17 @@ pub fn with_odd(p: Progress, odd: u64) -> Progress
 }
 
 // A rule that tests names and adds none.
-pub fn counting(p: Progress, t: Tally) -> Step
+#[tactic(auto, unfolding(values::specs::Answers::Addable, crate::specs::Scope::counting))]
+pub fn counting(p: Progress, t: Result<u64, Refusal>) -> Result<Progress, Refusal>
     requires { Addable p.odd t }
     ensures { result ≡ counting p t }
 {
-    match t {
-        Tally::Refused(r) => Step::Refused(r),
-        Tally::Counted(odd) => Step::Went(with_odd(p, odd)),
-    }
+    let odd = t?;
+    Ok(with_odd(p, odd))
 }
 
 // "Their names vanish when the graph ends": the walk after a nested graph, where it was `before`.
+#[tactic(auto, unfolding(crate::specs::Scope::left))]
 pub fn leaving(before: Progress, after: Progress) -> Progress
     ensures { result ≡ left before after }
 {

@@ -15,7 +15,7 @@ use Rattle.rules.specs.Identity.{Identity, identity_of, same_identity, identifie
 use Rattle.rules.specs.Graph.{graph}
 use Rattle.rules.specs.Function.{function_input, function_output, function_body, Heading, Functions, functions, function}
 use Rattle.rules.proofs.Matching.{bind_assoc}
-use Rattle.messages.specs.Around.{inside, import_number, imports_of, attributes_of}
+use Rattle.messages.specs.Around.{field_of, inside, import_number, imports_of, attributes_of}
 use Rattle.messages.specs.Again.{graph_again}
 use Rattle.signatures.specs.Signature.{signature_again}
 use Rattle.signatures.proofs.HeadLaws.{Headed, head_again}
@@ -30,7 +30,7 @@ use Rattle.second_walk.proofs.GraphAgain.{graph_again_lem}
 
 -- what surrounds it answers as what is read again
 headed_answers : {model : Bytes} {f : Field} {v : ℕ} {h : Heading} → Headed model f v h → Answers model (within v f) h.around.imports h.around.attributes
-unfolding within imports_of import_number attributes_of
+unfolding within field_of imports_of import_number attributes_of
 headed_answers k = record { imported = k.imports; declared = k.attributes }
 
 headed_kept : {model : Bytes} {f : Field} {v : ℕ} {h : Heading} → Headed model f v h → h.around ≡ kept (within v f) h.around.imports h.around.attributes

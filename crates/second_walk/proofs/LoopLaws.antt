@@ -1,8 +1,10 @@
 -- The loop over the functions of a model.
+use Rattle.std.specs.Prelude.{Err, None, Ok, Option, Some}
+use Rattle.varint.specs.Answers.{Answer}
 use Prim.Native.Nat.{ℕ, ◌+◌, ◌-◌, ◌*◌, ◌^◌, ◌≤◌, ◌<◌}
 use native.Mathlib.Omega.{arith}
 use mathlib.Core.Path.{◌≡◌, refl, sym, ap, subst, ◌∙◌}
-use mathlib.Core.Bool.{Bool, true, false}
+use mathlib.Core.Bool.{Bool, false}
 use mathlib.Core.List.{List, [], Memᴰ, map}
 use lib.ListN.{length, take, drop}
 use Rattle.varint.specs.Outcome.{pass, each, Judged}
@@ -14,11 +16,9 @@ use Rattle.varint.proofs.Tells.{Any}
 use Rattle.wire.specs.Wire.{field}
 use Rattle.wire.specs.Message.{all_of, message, whole}
 use Rattle.wire.specs.Outline.{Starts}
-use Rattle.wire.specs.Answers.{sought_says, sought_in}
+use Rattle.wire.specs.Answers.{sought_says, sought_in, Sought}
 use Rattle.wire.specs.declared.Field.{Field}
 use Rattle.wire.specs.declared.Cursor.{Cursor}
-use Rattle.wire.specs.declared.Sought.{Sought}
-use Rattle.wire.specs.declared.Sought.TheVariants as sought
 use Rattle.wire.proofs.Along.{all_from, Onward, found_onward, Along, along_done, along_fails, along_goes, along_falls, along_here, along_later, along_from, along_past}
 use Rattle.wire.proofs.Reading.{Fits, AtTag, field_tells}
 use Rattle.schema.specs.declared.Kind.TheVariants.{Function}
@@ -34,11 +34,8 @@ use Rattle.scope.specs.Scope.{walk_in, step_says, Enters, Countable, counted}
 use Rattle.scope.specs.Recall.{Recalling}
 use Rattle.scope.specs.declared.remembered.Index.{Index}
 use Rattle.scope.specs.declared.scopes.Progress.{Progress}
-use Rattle.scope.specs.declared.scopes.Step.{Step}
-use Rattle.scope.specs.declared.scopes.Step.TheVariants as step
 use Rattle.identities.specs.Functions.{functions_before}
 use Rattle.identities.specs.Identified.{Identified, Added}
-use Rattle.identities.specs.declared.Identities.{Identities}
 use Rattle.identities.proofs.LoopLaws.{Defining, defining_start, defining_goes}
 use Rattle.functions.specs.Function.{function_again}
 use Rattle.functions.proofs.FunctionLaws.{function_most}
@@ -52,7 +49,7 @@ onward_fits {model} {number} {pos} {f} o =
 -- The functions before the cursor are judged, and answered `o` is what all of them answer. What is counted fits: a function has no more nodes than bytes, and
 -- no more names than 49 for each.
 pub record Judging (model list : Bytes) (v : ℕ) (ix : Index) (last : ℕ) (o : Judged Walk) (first lent : List ℕ)
-    (cells extra : List ℕ) (q : Progress) (known : Identities) (c : Cursor) : Type 0 where
+    (cells extra : List ℕ) (q : Progress) (known : Option ℕ) (c : Cursor) : Type 0 where
   pub along : Along model Model-functions (length model) (one_again model list (fills (length first)) v) o (walk_in model cells q) c
   pub within : (f : Field) → Memᴰ f (all_from model Model-functions (length model) c.at) → Memᴰ f (all_of Model-functions (message model (whole model)))
   pub size : length cells ≡ length first
@@ -64,9 +61,9 @@ pub record Judging (model list : Bytes) (v : ℕ) (ix : Index) (last : ℕ) (o :
 
 pub judging_start : {model : Bytes} (list : Bytes) {v : ℕ} {ix : Index} {last : ℕ} {cells extra : List ℕ} {p : Progress} {pos : ℕ}
     → Starts model (whole model) Model-functions pos → Recalling model ix cells (take last extra)
-    → Identified model ix.seed v (drop last extra) (record { count = 0; whole = true }) [] → few_counted (step.Went p)
+    → Identified model ix.seed v (drop last extra) (Some 0) [] → few_counted (Ok p)
     → Judging model list v ix last (functions_again model list (fills (length cells)) v (walk_in model cells p)) cells extra cells extra p
-    (record { count = 0; whole = true }) (record { at = pos; end = length model })
+    (Some 0) (record { at = pos; end = length model })
 unfolding functions_again few_counted whole all_from
 judging_start {model} list {v} {ix} {last} {cells} {extra} {p} {pos} s m i few = record {
   along = record { ends = refl; rest = ap (each (one_again model list (fills (length cells)) v) (walk_in model cells p)) s.same };
@@ -79,13 +76,13 @@ judging_start {model} list {v} {ix} {last} {cells} {extra} {p} {pos} s m i few =
   odd = (let n = few.1 in omega arith);
 }
 
-module _ {model list : Bytes} {v : ℕ} {ix : Index} {last : ℕ} {o : Judged Walk} {first lent cells extra : List ℕ} {q : Progress} {known : Identities} {c : Cursor}
+module _ {model list : Bytes} {v : ℕ} {ix : Index} {last : ℕ} {o : Judged Walk} {first lent cells extra : List ℕ} {q : Progress} {known : Option ℕ} {c : Cursor}
     (g : Judging model list v ix last o first lent cells extra q known c) {a : Sought} (read : sought_says a ≡ sought_in model Model-functions c.end c.at) where
-  pub judging_done : a ≡ sought.Missing → step_says model cells (step.Went q) ≡ o
+  pub judging_done : a ≡ None → step_says model cells (Ok q) ≡ o
   unfolding step_says
   judging_done e = sym (along_done g.along read e)
 
-  module _ {f : Field} {next : Cursor} (e : a ≡ sought.Found f next) where
+  module _ {f : Field} {next : Cursor} (e : a ≡ Some (f, next)) where
     pub judging_falls : length model - next.at < length model - c.at
     judging_falls = along_falls g.along read e
 
@@ -121,7 +118,7 @@ module _ {model list : Bytes} {v : ℕ} {ix : Index} {last : ℕ} {o : Judged Wa
     -- b is whether it stood before, r its answer with the cells `later`
     module _ {b : Bool}
         (twice : b ≡ identified (identity_of model v (message model f)) (map (λ h. identity_of model v (message model h)) (functions_before model f.place)))
-        (later : List ℕ) (r : Step) (answer : step_says model later r ≡ function_again model (fills (length cells)) 7 list v b (walk_in model cells q) f) where
+        (later : List ℕ) (r : Answer Progress) (answer : step_says model later r ≡ function_again model (fills (length cells)) 7 list v b (walk_in model cells q) f) where
       answered : step_says model later r ≡ one_again model list (fills (length first)) v (walk_in model cells q) f
       unfolding one_again
       answered =
@@ -129,13 +126,13 @@ module _ {model list : Bytes} {v : ℕ} {ix : Index} {last : ℕ} {o : Judged Wa
           ∙ ap (λ (n : ℕ). function_again model (fills n) 7 list v b (walk_in model cells q) f) g.size
           ∙ ap (λ (t : Bool). function_again model (fills (length first)) 7 list v t (walk_in model cells q) f) twice
 
-      pub judging_stops : {x : Refusal} → r ≡ step.Refused x → step_says model later r ≡ o
+      pub judging_stops : {x : Refusal} → r ≡ Err x → step_says model later r ≡ o
       unfolding step_says
       judging_stops k = ap (step_says model later) k ∙ sym (along_fails g.along read e (sym (says (step_says model later) answered k)))
 
-      pub judging_goes : counted f q r → {u : Progress} → r ≡ step.Went u → {among : List ℕ} → length later ≡ length cells → length among ≡ length extra
+      pub judging_goes : counted f q r → {u : Progress} → r ≡ Ok u → {among : List ℕ} → length later ≡ length cells → length among ≡ length extra
           → Recalling model ix later (take last among)
-          → {more : Identities} → Added model ix.seed v known f (drop last extra) (drop last among) more
+          → {more : Option ℕ} → Added model ix.seed v known f (drop last extra) (drop last among) more
           → Judging model list v ix last o first lent later among u more next
       unfolding step_says counted walk_in
       judging_goes n {u} k {among} size sized memory {more} added =

@@ -1,8 +1,10 @@
 -- The header and the main graph, in the order of the code's tests.
+use Rattle.std.specs.Prelude.{Err, None, Ok, Some}
+use Rattle.varint.specs.Answers.{Answer, outcome_of}
 use Prim.Native.Nat.{ℕ, ◌^◌, ◌≤◌, ◌<◌}
 use native.Mathlib.Omega.{arith}
 use mathlib.Core.Path.{◌≡◌, refl, sym, ap, subst, ◌∙◌}
-use mathlib.Core.Bool.{Bool, true, false}
+use mathlib.Core.Bool.{Bool, true}
 use mathlib.Core.List.{List, []}
 use mathlib.Core.Option.{Option, none, some}
 use lib.ListN.{length, drop}
@@ -14,11 +16,9 @@ use Rattle.varint.proofs.Passing.{passed_tells, fail_no_pass}
 use Rattle.varint.proofs.Tells.{Any}
 use Rattle.wire.specs.Wire.{field}
 use Rattle.wire.specs.Message.{all_of, first_of, number_of, message, whole}
-use Rattle.wire.specs.Answers.{sought_says, found_in}
+use Rattle.wire.specs.Answers.{sought_says, found_in, Sought}
 use Rattle.wire.specs.declared.Field.{Field}
 use Rattle.wire.specs.declared.Cursor.{Cursor}
-use Rattle.wire.specs.declared.Sought.{Sought}
-use Rattle.wire.specs.declared.Sought.TheVariants as sought
 use Rattle.wire.proofs.Reading.{Fits, AtTag, field_tells}
 use Rattle.wire.proofs.MessageLaws.{missing, found, first_read}
 use Rattle.schema.specs.declared.Kind.TheVariants.{Model, Graph}
@@ -33,26 +33,20 @@ use Rattle.rules.specs.Count.{names_in}
 use Rattle.rules.specs.Header.{in_model, header}
 use Rattle.rules.proofs.NamesFew.{names_few}
 use Rattle.index.proofs.ListingLaws.{listed_begin}
-use Rattle.values.specs.Answers.{ruling_says}
-use Rattle.values.specs.declared.Ruling.{Ruling}
-use Rattle.values.specs.declared.Ruling.TheVariants as ruling
 use Rattle.values.proofs.RulingLaws.{ruled_kept, ruled_refused}
 use Rattle.headers.specs.Imports.{imports_in}
 use Rattle.headers.specs.Imported.{Imported, holds}
 use Rattle.headers.specs.declared.imports.Imports.{Imports}
-use Rattle.headers.specs.declared.imports.Heading.{Heading}
-use Rattle.headers.specs.declared.imports.Heading.TheVariants as heading
 use Rattle.headers.proofs.Silent.{silent_fails, silent_passes}
 use Rattle.headers.proofs.HeaderLaws.{header_imports}
-use Rattle.messages.specs.Around.{import_number, imports_of, attributes_of}
+use Rattle.messages.specs.Around.{field_of, import_number, imports_of, attributes_of}
 use Rattle.messages.specs.Again.{graph_again}
+use Rattle.messages.specs.declared.contexts.Owner.TheVariants as owners
 use Rattle.messages.specs.declared.contexts.Surroundings.{Surroundings}
-use Rattle.scope.specs.Scope.{scope_in, walk_in, step_says, standing, Enters, Countable, counted}
+use Rattle.scope.specs.Scope.{scope_in, walk_in, step_says, Enters, Countable, counted}
 use Rattle.scope.specs.Recall.{Recalling, Minds, HeldOn}
 use Rattle.scope.specs.declared.remembered.Index.{Index}
 use Rattle.scope.specs.declared.scopes.Progress.{Progress}
-use Rattle.scope.specs.declared.scopes.Step.{Step}
-use Rattle.scope.specs.declared.scopes.Step.TheVariants as step
 use Rattle.scope.proofs.RecallLaws.{holding, recalling_held, recalling_with}
 use Rattle.cycle.proofs.CountLaws.{again_most}
 use Rattle.second_walk.specs.Walks.{main_graph, few_counted}
@@ -65,27 +59,27 @@ Outset = record { used = 0; nodes = 0; most = 0; odd = 0 }
 
 -- what surrounds it: v is the IR version, m the whole model
 abbrev pub outermost : (v : ℕ) (m : Field) → Surroundings
-outermost v m = record { main = true; version = v; nodes = Graph-node; owner = m; function = false }
+outermost v m = record { main = true; version = v; nodes = Graph-node; owner = owners.Model m }
 
 -- the header keeps what is read again of it
 outermost_answers : (model list : Bytes) (v : ℕ) (imports : List Bytes) → header model list (message model (whole model)) ≡ pass imports
     → Answers model (outermost v (whole model)) imports []
-unfolding imports_of import_number attributes_of
+unfolding field_of imports_of import_number attributes_of
 outermost_answers model list v imports e = record { imported = header_imports model list imports e; declared = λ x _. refl }
 
 -- ---- what is counted
 
-few_failed : (model : Bytes) (cells : List ℕ) (r : Step) {x : Refusal} → step_says model cells r ≡ fail x → few_counted r
+few_failed : (model : Bytes) (cells : List ℕ) (r : Answer Progress) {x : Refusal} → step_says model cells r ≡ fail x → few_counted r
 unfolding step_says few_counted
-few_failed model cells (step.Went q) {x} e = absurd (fail_no_pass x _ (sym e))
-few_failed model cells (step.Refused y) e = tt
+few_failed model cells (Ok q) {x} e = absurd (fail_no_pass x _ (sym e))
+few_failed model cells (Err y) e = tt
 
 -- r is the answer for the main graph
-pub main_few : (model : Bytes) (full : ℕ → Bool) (v : ℕ) (m g : Field) (cells later : List ℕ) (r : Step) → Enters model Graph Outset g
+pub main_few : (model : Bytes) (full : ℕ → Bool) (v : ℕ) (m g : Field) (cells later : List ℕ) (r : Answer Progress) → Enters model Graph Outset g
     → step_says model later r ≡ graph_again model full 8 (outermost v m) (walk_in model cells Outset) g → counted g Outset r → few_counted r
 unfolding step_says few_counted counted walk_in
-main_few model full v m g cells later (step.Refused x) n e c = tt
-main_few model full v m g cells later (step.Went q) n e c =
+main_few model full v m g cells later (Err x) n e c = tt
+main_few model full v m g cells later (Ok q) n e c =
     let names = names_few model true g n.tagged n.ends in
     let odd = passed_tells _ Any _ (walk_in model later q) (again_most model full 8 (outermost v m) (walk_in model cells Outset) g) (sym e) in
     let short = n.short in
@@ -105,15 +99,15 @@ module _ (model list : Bytes) (full : ℕ → Bool) where
   unfolding main_graph message
   headed e = ap (λ (o : Judged (List Bytes)). o >>= Main (first_of Model-graph (message model (whole model)))) e
 
-  module _ (r : Ruling) (ruled : ruling_says r ≡ silent Head) where
-    pub main_unheaded : {x : Refusal} → r ≡ ruling.Refused x → (cells : List ℕ) (p : Progress) {s : Step} → s ≡ standing p r
+  module _ (r : Answer (Unit {0})) (ruled : outcome_of r ≡ silent Head) where
+    pub main_unheaded : {x : Refusal} → r ≡ Err x → (cells : List ℕ) {s : Answer Progress} → s ≡ Err x
         → (step_says model cells s ≡ main_graph model list full) × few_counted s
-    unfolding step_says standing ◌>>=◌
-    main_unheaded {x} k cells p {s} e =
-        let fails : step_says model cells s ≡ fail x = ap (step_says model cells) (e ∙ ap (standing p) k) in
+    unfolding step_says ◌>>=◌
+    main_unheaded {x} k cells {s} e =
+        let fails : step_says model cells s ≡ fail x = ap (step_says model cells) e in
         (fails ∙ sym (headed (silent_fails Head (ruled_refused ruled k))), few_failed model cells s fails)
 
-    module _ (k : r ≡ ruling.Kept) {m : Field} (em : m ≡ whole model) (a : Sought) (read : sought_says a ≡ found_in m.next (first_of Model-graph (message model m))) where
+    module _ (k : r ≡ (Ok tt)) {m : Field} (em : m ≡ whole model) (a : Sought) (read : sought_says a ≡ found_in m.next (first_of Model-graph (message model m))) where
       passed : (imports : List Bytes) × (Head ≡ pass imports)
       passed = silent_passes Head (ruled_kept ruled k)
 
@@ -121,13 +115,13 @@ module _ (model list : Bytes) (full : ℕ → Bool) where
       unfolding ◌>>=◌
       mained e = ap (λ (o : Option Field). Main o passed.0) (e ∙ ap (λ (f : Field). first_of Model-graph (message model f)) em) ∙ sym (headed passed.1)
 
-      pub main_missing : a ≡ sought.Missing → (cells : List ℕ) (s : Step) → step_says model cells s ≡ refused 11 m.place
+      pub main_missing : a ≡ None → (cells : List ℕ) (s : Answer Progress) → step_says model cells s ≡ refused 11 m.place
           → (step_says model cells s ≡ main_graph model list full) × few_counted s
       main_missing u cells s e =
           (e ∙ ap (λ (f : Field). refused 11 f.place) em ∙ mained (missing model Model-graph m a read u), few_failed model cells s e)
 
       -- v is the IR version
-      pub main_found : {v : ℕ} → v ≡ number_of Model-ir_version (message model (whole model)) → {g : Field} {next : Cursor} → a ≡ sought.Found g next → (cells : List ℕ)
+      pub main_found : {v : ℕ} → v ≡ number_of Model-ir_version (message model (whole model)) → {g : Field} {next : Cursor} → a ≡ Some (g, next) → (cells : List ℕ)
           → graph_again model full 8 (outermost v m) (walk_in model cells Outset) g ≡ main_graph model list full
       unfolding walk_in scope_in start in_model
       main_found {v} ev {g} u cells =
@@ -150,7 +144,7 @@ main_countable model g n =
 
 -- the walk may go into it
 pub main_enters : (model : Bytes) → length model < 2 ^ 32 → first_walk model ≡ pass tt → {m : Field} → m ≡ whole model → (a : Sought)
-    → sought_says a ≡ found_in m.next (first_of Model-graph (message model m)) → {g : Field} {next : Cursor} → a ≡ sought.Found g next
+    → sought_says a ≡ found_in m.next (first_of Model-graph (message model m)) → {g : Field} {next : Cursor} → a ≡ Some (g, next)
     → Enters model Graph Outset g
 unfolding first_of whole
 main_enters model h passed {m} em a read {g} u = record {
@@ -172,11 +166,11 @@ main_enters model h passed {m} em a read {g} u = record {
 
 -- the lists hold the imports, and no attributes
 pub main_minds : {model : Bytes} {ix : Index} {cells before after : List ℕ}
-    → Recalling model ix cells before → HeldOn model ix before after → {r : Heading}
-    → holds model Model-opset_import (whole model) ix.seed 0 (drop ix.split after) r → {i : Imports} → r ≡ heading.Imported i
+    → Recalling model ix cells before → HeldOn model ix before after → {r : Answer Imports}
+    → holds model Model-opset_import (whole model) ix.seed 0 (drop ix.split after) r → {i : Imports} → r ≡ Ok i
     → (v : ℕ) {m : Field} → m ≡ whole model
     → Minds model (imports_of model (outermost v m)) (attributes_of model (outermost v m)) (holding ix i (record { base = 0; top = 0; whole = true })) i.listing.top cells after
-unfolding holds imports_of import_number attributes_of
+unfolding holds field_of imports_of import_number attributes_of
 main_minds {model} {ix} {cells} {before} {after} h k {r} x {i} e v em =
     let y : Imported model ix.seed (drop ix.split after) i (imports_in model Model-opset_import (whole model)) × (0 ≤ i.listing.top) = rw e at x in
     rw em (record {

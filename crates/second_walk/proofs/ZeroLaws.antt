@@ -1,8 +1,8 @@
 -- Zeros remember nothing.
+use Rattle.std.specs.Prelude.{Some}
 use Prim.Native.Nat.{ℕ, zero, suc, ◌-◌, ◌≤◌}
 use native.Mathlib.Omega.{arith}
 use mathlib.Core.Path.{◌≡◌, refl, sym, ap, subst, ◌∙◌}
-use mathlib.Core.Bool.{true}
 use mathlib.Core.List.{List, [], ◌++◌}
 use lib.ListN.{length, take, drop, replicate, length-replicate}
 use Rattle.varint.specs.Bytes.{Bytes}
@@ -46,7 +46,7 @@ module _ {extra : List ℕ} (zeros : extra ≡ replicate (length extra) 0) {last
   recalling_none model ix cells k =
       subst (Recalling model ix cells) (sym (ap (take last) zeros ∙ take_zeros last (length extra) h)) (zeros_recall model ix cells last k)
 
-  pub defining_none : (model : Bytes) (seed version : ℕ) → Identified model seed version (drop last extra) (record { count = 0; whole = true }) []
+  pub defining_none : (model : Bytes) (seed version : ℕ) → Identified model seed version (drop last extra) (Some 0) []
   defining_none model seed version =
-      subst (λ (l : List ℕ). Identified model seed version l (record { count = 0; whole = true }) [])
+      subst (λ (l : List ℕ). Identified model seed version l (Some 0) [])
       (sym (ap (drop last) zeros ∙ drop_zeros last (length extra) h)) (identified_none model seed version (length extra - last))

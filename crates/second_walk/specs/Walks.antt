@@ -1,6 +1,8 @@
 -- The second walk in the parts that the code makes of it. No rule speaks of this; contracts of the code do, and `functions_again_lem` in proofs/FunctionAgain.antt
 -- says that the second part is that of document 02.
-use Rattle.std.specs.Prelude.{ℕ, ◌*◌, ◌^◌, ◌≤◌, Bool, map}
+use Rattle.scope.specs.declared.scopes.Progress.{Progress}
+use Rattle.varint.specs.Answers.{Answer}
+use Rattle.std.specs.Prelude.{ℕ, ◌*◌, ◌^◌, ◌≤◌, Bool, map, Err, Ok}
 use Rattle.std.proofs.Math.Option.{none, some}
 use Rattle.varint.specs.Outcome.{◌>>=◌, each, Judged, refused}
 use Rattle.varint.specs.Bytes.{Bytes}
@@ -11,8 +13,6 @@ use Rattle.rules.specs.Walk.{Walk, start}
 use Rattle.rules.specs.Identity.{Identity, identity_of, identified}
 use Rattle.rules.specs.Graph.{graph}
 use Rattle.rules.specs.Header.{in_model, header}
-use Rattle.scope.specs.declared.scopes.Step.{Step}
-use Rattle.scope.specs.declared.scopes.Step.TheVariants as step
 use Rattle.identities.specs.Functions.{functions_before}
 use Rattle.functions.specs.Function.{function_again}
 
@@ -34,6 +34,6 @@ module _ (model list : Bytes) (full : ℕ → Bool) where
   functions_again v w = each (one_again v) w (all_of Model-functions (message model (whole model)))
 
 -- The main graph leaves room to count what functions have: a model has fewer than 2 ^ 32 bytes, a byte no more than 48 names.
-unfoldable pub few_counted : Step → Type 0
-few_counted (step.Went p) = (p.nodes ≤ 2 ^ 32) × (p.odd ≤ 48 * 2 ^ 32)
-few_counted (step.Refused r) = Unit {0}
+unfoldable pub few_counted : Answer Progress → Type 0
+few_counted (Ok p) = (p.nodes ≤ 2 ^ 32) × (p.odd ≤ 48 * 2 ^ 32)
+few_counted (Err r) = Unit {0}

@@ -1,4 +1,5 @@
 // The header and the main graph.
+ghost use Rattle.varint.specs.Answers.{outcome_of};
 ghost use Rattle.std.specs.Prelude.{◌≡◌, ◌^◌, ◌<◌, length, drop};
 ghost use Rattle.wire.specs.Message.{number_of, message, whole};
 ghost use Rattle.varint.specs.Outcome.{pass};
@@ -9,28 +10,33 @@ ghost use Rattle.rules.specs.Header.{header};
 ghost use Rattle.rules.specs.Verdict.{fills};
 ghost use Rattle.scope.specs.Scope.{step_says};
 ghost use Rattle.scope.specs.Recall.{Remembering, Recalling, HeldOn};
-ghost use Rattle.values.specs.Answers.{ruling_says};
 ghost use Rattle.headers.specs.Imported.{Outlined, ruling_of, holds};
 ghost use Rattle.second_walk.specs.Walks.{main_graph, few_counted};
 
 use cycle::graph;
-use headers::{Heading, header, ruling_of, whole};
+use headers::{Imports, header, whole};
 use index::Listing;
-use messages::Surroundings;
-use scope::{Index, Progress, Step, standing, stopped};
-use values::Ruling;
+use messages::{Owner, Surroundings};
+use scope::{Index, Progress};
 use values::numbers::{GRAPH_NODE, MODEL_GRAPH};
-use wire::{Outline, Sought};
+use varint::{Refusal, refused};
+use wire::Outline;
 
 // "to depth 8, the main graph being depth 1"
 const DEEPEST: usize = 8;
 
 // The header, with the imports in the part of the extra cells that is for lists.
-fn head(model: &[u8], list: &[u8], extra: &mut [u32], ix: Index, o: Outline) -> Heading
+fn head(
+    model: &[u8],
+    list: &[u8],
+    extra: &mut [u32],
+    ix: Index,
+    o: Outline,
+) -> Result<Imports, Refusal>
     requires outlined { Outlined model.now o }
     requires remembering { Remembering model.now ix extra.old }
     requires model_len_bound { length model.now < 2 ^ 32 }
-    ensures answer { ruling_says (ruling_of result) ≡ silent (header model.now list.now (message model.now (whole model.now))) }
+    ensures answer { outcome_of (ruling_of result) ≡ silent (header model.now list.now (message model.now (whole model.now))) }
     ensures imported { holds model.now Model-opset_import (whole model.now) ix.seed 0 (drop ix.split extra.new) result }
     ensures held { HeldOn model.now ix extra.old extra.new }
 {
@@ -47,7 +53,7 @@ pub(crate) fn main_graph(
     ix: Index,
     o: Outline,
     version: u64,
-) -> Step
+) -> Result<Progress, Refusal>
     requires outlined { Outlined model.now o }
     requires version_value { version ≡ number_of Model-ir_version (message model.now (whole model.now)) }
     requires recalling { Recalling model.now ix cells.old extra.old }
@@ -65,16 +71,13 @@ pub(crate) fn main_graph(
         most: 0,
         odd: 0,
     };
-    let heading = head(model, list, extra, ix, o);
-    let Heading::Imported(imports) = heading else {
-        return standing(start, ruling_of(heading));
-    };
+    let imports = head(model, list, extra, ix, o)?;
     let m = whole(model);
     let top = imports.listing.top;
     let known = Index {
         seed: ix.seed,
         split: ix.split,
-        imports: imports,
+        imports,
         attributes: Listing {
             base: 0,
             top: 0,
@@ -83,13 +86,12 @@ pub(crate) fn main_graph(
     };
     let around = Surroundings {
         main: true,
-        version: version,
+        version,
         nodes: GRAPH_NODE,
-        owner: m,
-        function: false,
+        owner: Owner::Model(m),
     };
-    match m.first_from(model, MODEL_GRAPH, o.second) {
-        Sought::Missing => stopped(Ruling::NO_GRAPH, m.place),
-        Sought::Found(g, _) => graph(model, cells, extra, known, top, DEEPEST, around, start, g),
-    }
+    let Some((g, _)) = m.first_from(model, MODEL_GRAPH, o.second) else {
+        return refused(Refusal::NO_GRAPH, m.place);
+    };
+    graph(model, cells, extra, known, top, DEEPEST, around, start, g)
 }

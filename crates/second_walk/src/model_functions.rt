@@ -1,5 +1,5 @@
 // The functions of a model, in its order. The extra cells before `last` are for names and lists, those from there on for a table of the functions so far.
-ghost use Rattle.std.specs.Prelude.{◌≡◌, [], true, false, ◌^◌, ◌≤◌, ◌<◌, length, take, drop};
+ghost use Rattle.std.specs.Prelude.{◌≡◌, [], false, ◌^◌, ◌≤◌, ◌<◌, length, take, drop};
 ghost use Rattle.varint.specs.Outcome.{pass};
 ghost use Rattle.wire.specs.Message.{whole};
 ghost use Rattle.wire.specs.Outline.{Starts};
@@ -10,17 +10,18 @@ ghost use Rattle.rules.specs.Count.{names_in, function_names};
 ghost use Rattle.rules.specs.Verdict.{fills};
 ghost use Rattle.scope.specs.Scope.{walk_in, step_says, counted, Enters, Countable};
 ghost use Rattle.scope.specs.Recall.{Recalling};
-ghost use Rattle.scope.specs.declared.scopes.Step.TheVariants.{Went};
+ghost use Rattle.std.specs.Prelude.{Ok, Some};
 ghost use Rattle.identities.specs.Functions.{functions_before};
 ghost use Rattle.identities.specs.Identified.{Identified, Added};
 ghost use Rattle.functions.specs.Function.{function_again};
 ghost use Rattle.second_walk.specs.Walks.{functions_again, few_counted};
 
 use functions::function;
-use identities::{Identities, add, is_defined};
-use scope::{Index, Progress, Step};
+use identities::{add, is_defined};
+use scope::{Index, Progress};
 use values::numbers::MODEL_FUNCTIONS;
-use wire::{Cursor, Field, Sought};
+use varint::Refusal;
+use wire::{Cursor, Field};
 
 // "A function is at depth 1": seven more.
 const INSIDE: usize = 7;
@@ -37,7 +38,7 @@ fn judge_function(
     twice: bool,
     p: Progress,
     f: Field,
-) -> Step
+) -> Result<Progress, Refusal>
     requires enters { Enters model.now Function p f }
     requires last_in_bounds { last ≤ length extra.old }
     requires recalling { Recalling model.now ix cells.old (take last extra.old) }
@@ -69,10 +70,10 @@ fn add_function(
     extra: &mut [u32],
     seed: u64,
     last: usize,
-    known: Identities,
+    known: Option<usize>,
     version: u64,
     f: Field,
-) -> Identities
+) -> Option<usize>
     requires identified { Identified model.now seed version (drop last extra.old) known (functions_before model.now f.place) }
     requires last_in_bounds { last ≤ length extra.old }
     requires model_len_bound { (length model.now < 2 ^ 32) × (f.start ≤ f.next) × (f.next ≤ length model.now) }
@@ -94,38 +95,29 @@ pub(crate) fn functions(
     version: u64,
     at: usize,
     p: Progress,
-) -> Step
+) -> Result<Progress, Refusal>
     requires model_len_bound { length model.now < 2 ^ 32 }
     requires model_value { first_walk model.now ≡ pass tt }
     requires starts { Starts model.now (whole model.now) Model-functions at }
     requires last_in_bounds { last ≤ length extra.old }
     requires recalling { Recalling model.now ix cells.old (take last extra.old) }
-    requires identified { Identified model.now ix.seed version (drop last extra.old) (record { count = 0; whole = true }) [] }
-    requires few_counted { few_counted (Went p) }
+    requires identified { Identified model.now ix.seed version (drop last extra.old) (Some 0) [] }
+    requires few_counted { few_counted (Ok p) }
     ensures answer { step_says model.now cells.new result ≡ functions_again model.now list.now (fills (length cells.old)) version (walk_in model.now cells.old p) }
     ensures size { length cells.new ≡ length cells.old }
 {
     let mut c = Cursor {
-        at: at,
+        at,
         end: model.len(),
     };
     let mut q = p;
-    let mut known = Identities {
-        count: 0,
-        whole: true,
-    };
-    loop {
-        let sought = c.next_of(model, MODEL_FUNCTIONS);
-        let Sought::Found(f, next) = sought else {
-            return Step::Went(q);
-        };
+    let mut known = Some(0);
+    while let Some((f, next)) = c.next_of(model, MODEL_FUNCTIONS) {
         let twice = is_defined(model, &extra[last..], ix.seed, known, version, at, f);
-        let step = judge_function(model, list, cells, extra, ix, last, version, twice, q, f);
-        let Step::Went(further) = step else {
-            return step;
-        };
+        let further = judge_function(model, list, cells, extra, ix, last, version, twice, q, f)?;
         known = add_function(model, extra, ix.seed, last, known, version, f);
         q = further;
         c = next;
     }
+    Ok(q)
 }

@@ -2,7 +2,7 @@
 ghost use Rattle.std.specs.Prelude.{◌≤◌};
 
 use values::numbers::MODEL_FUNCTIONS;
-use wire::{Cursor, Sought};
+use wire::Cursor;
 
 // Of a function: a bucket, its place, its length, the next in its bucket.
 const CELLS_PER_FUNCTION: usize = 4;
@@ -17,15 +17,11 @@ pub(crate) fn table_at(model: &[u8], at: usize, split: usize, size: usize) -> us
     ensures { (split ≤ result) × (result ≤ size) }
 {
     let mut c = Cursor {
-        at: at,
+        at,
         end: model.len(),
     };
     let mut r = size;
-    loop {
-        let sought = c.next_of(model, MODEL_FUNCTIONS);
-        let Sought::Found(f, next) = sought else {
-            return r;
-        };
+    while let Some((f, next)) = c.next_of(model, MODEL_FUNCTIONS) {
         if f.next - f.start < SHORTEST {
             return r;
         }
@@ -35,4 +31,5 @@ pub(crate) fn table_at(model: &[u8], at: usize, split: usize, size: usize) -> us
         r = r - CELLS_PER_FUNCTION;
         c = next;
     }
+    r
 }

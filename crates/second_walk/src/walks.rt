@@ -13,17 +13,16 @@ use crate::mains::main_graph;
 use crate::model_functions::functions;
 use crate::tables::table_at;
 use headers::{model_outline, whole};
-use scope::{Index, Step};
+use scope::{Index, Progress};
 use values::numbers::MODEL_IR_VERSION;
-use wire::Outline;
+use varint::Refusal;
+use wire::{Outline, value_in};
 
 fn ir_version(model: &[u8], o: Outline) -> u64
     requires { Outlined model.now o }
     ensures { result ≡ number_of Model-ir_version (message model.now (whole model.now)) }
 {
-    whole(model)
-        .first_from(model, MODEL_IR_VERSION, o.first)
-        .value()
+    value_in(whole(model).first_from(model, MODEL_IR_VERSION, o.first))
 }
 
 // With extra cells that are all zero.
@@ -33,7 +32,7 @@ pub fn second_walk(
     cells: &mut [u32],
     extra: &mut [u32],
     ix: Index,
-) -> Step
+) -> Result<Progress, Refusal>
     requires extra_value { extra.old ≡ replicate (length extra.old) 0 }
     requires split_in_bounds { ix.split ≤ length extra.old }
     requires model_len_bound { length model.now < 2 ^ 32 }
@@ -44,9 +43,6 @@ pub fn second_walk(
     let o = model_outline(model);
     let version = ir_version(model, o);
     let last = table_at(model, o.fourth, ix.split, extra.len());
-    let walked = main_graph(model, list, cells, &mut extra[..last], ix, o, version);
-    let Step::Went(p) = walked else {
-        return walked;
-    };
+    let p = main_graph(model, list, cells, &mut extra[..last], ix, o, version)?;
     functions(model, list, cells, extra, ix, last, version, o.fourth, p)
 }

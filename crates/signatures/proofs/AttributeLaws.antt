@@ -1,4 +1,6 @@
 -- The rules of a function's attributes in the order of the code's tests.
+use Rattle.std.specs.Prelude.{Err, Ok}
+use Rattle.varint.specs.Answers.{Answer, outcome_of}
 use Prim.Native.Nat.{ℕ}
 use mathlib.Core.Path.{◌≡◌, refl, sym, ap, ◌∙◌}
 use mathlib.Core.Bool.{Bool, true, false, not}
@@ -16,15 +18,9 @@ use Rattle.schema.specs.Numbers.{Attribute-name, Attribute-type, Attribute-ref_a
 use Rattle.rules.specs.Names.{Name, name_of, name_in}
 use Rattle.rules.specs.Walk.{Walk, start, naming}
 use Rattle.rules.specs.Function.{bad_default}
-use Rattle.values.specs.Answers.{more, ruling_says, tally_says, naming_says, name_field, tally_of}
-use Rattle.values.specs.declared.Ruling.{Ruling}
-use Rattle.values.specs.declared.Ruling.TheVariants as ruling
-use Rattle.values.specs.declared.tallies.Tally.{Tally}
-use Rattle.values.specs.declared.tallies.Tally.TheVariants as tally
-use Rattle.values.specs.declared.names.Naming.{Naming}
-use Rattle.values.specs.declared.names.Naming.TheVariants as naming_answer
+use Rattle.values.specs.Answers.{more, tally_says, naming_says, name_field}
 use Rattle.values.proofs.TallyLaws.{tallied, untallied}
-use Rattle.values.proofs.NameLaws.{empty_none, empty_some, named_name, named_tally, named_fails, named_passes}
+use Rattle.values.proofs.NameLaws.{empty_none, empty_some, named_name, named_fails, named_passes}
 use Rattle.values.proofs.RulingLaws.{ruled_kept, ruled_refused}
 use Rattle.messages.specs.Around.{attributes_before}
 use Rattle.signatures.specs.Signature.{default_rules, attribute_again, default_again}
@@ -43,12 +39,12 @@ module _ (model : Bytes) (f a : Field) where
   unique w k = ap (λ (o : Judged Walk). o >>= Unique) (sym k)
 
   -- t is the tally of the name
-  module _ {t : Tally} (e : (w : Walk) → tally_says w t ≡ naming 22 w (name_in model a)) where
-    pub attribute_misnamed : {x : Refusal} → t ≡ tally.Refused x → (w : Walk) → tally_says w t ≡ attribute_again model f w a
-    unfolding tally_says ◌>>=◌
-    attribute_misnamed k w = ap (tally_says w) k ∙ unique w (untallied w (e w) k)
+  module _ {t : Answer ℕ} (e : (w : Walk) → tally_says w t ≡ naming 22 w (name_in model a)) where
+    pub attribute_misnamed : {x : Refusal} → t ≡ Err x → (w : Walk) → fail x ≡ attribute_again model f w a
+    unfolding ◌>>=◌
+    attribute_misnamed k w = unique w (untallied w (e w) k)
 
-    module _ {k : ℕ} (i : t ≡ tally.Counted k) where
+    module _ {k : ℕ} (i : t ≡ Ok k) where
       -- a name that is counted is not empty
       pub attribute_some : is_empty (text model a) ≡ false
       unfolding naming name_in
@@ -109,13 +105,13 @@ module _ (model : Bytes) (f a : Field) where
   unfolding default_again Asked
   asks w e = ap (λ (o : Judged Walk). o >>= Asked (name_of model Attribute-name (message model a))) e
 
-  module _ {n : Naming} (e : (w : Walk) → naming_says w n ≡ name_field model 22 Attribute-name w (message model a)) (w : Walk) where
-    pub default_nameless : {r : Refusal} → n ≡ naming_answer.Refused r → tally_says w (tally_of n) ≡ default_again model f w a
+  module _ {n : Answer (Field × ℕ)} (e : (w : Walk) → naming_says w n ≡ name_field model 22 Attribute-name w (message model a)) (w : Walk) where
+    pub default_nameless : {r : Refusal} → n ≡ Err r → fail r ≡ default_again model f w a
     unfolding ◌>>=◌
-    default_nameless k = named_tally _ _ _ _ _ e w ∙ sym (named_fails _ _ _ _ _ e w k) ∙ asks w (named_fails _ _ _ _ _ e w k)
+    default_nameless k = asks w (named_fails _ _ _ _ _ e w k)
 
     -- b is whether the name stood before, in either list
-    module _ {g : Field} {k : ℕ} (i : n ≡ naming_answer.Named g k) {x : Bytes} (t : x ≡ text model g) {b : Bool}
+    module _ {g : Field} {k : ℕ} (i : n ≡ Ok (g, k)) {x : Bytes} (t : x ≡ text model g) {b : Bool}
         (j : b ≡ member x (attributes_before model f f.next a.place)) where
       named_by : Asked (record { bytes = x; place = g.place }) (more w k) ≡ default_again model f w a
       unfolding name_in ◌>>=◌
@@ -129,15 +125,15 @@ module _ (model : Bytes) (f a : Field) where
       default_twice h = sym (when_broken 42 g.place _ (sym j ∙ h)) ∙ named_by
 
       -- r is the ruling on its value
-      module _ (h : b ≡ false) (r : Ruling) (ruled : ruling_says r ≡ default_rules model a) where
+      module _ (h : b ≡ false) (r : Answer (Unit {0})) (ruled : outcome_of r ≡ default_rules model a) where
         valued : (default_rules model a >> pass (more w k)) ≡ default_again model f w a
         unfolding Asked
         valued = sym (when_kept 42 g.place _ (sym j ∙ h)) ∙ named_by
 
-        pub default_refused : {x : Refusal} → r ≡ ruling.Refused x → fail x ≡ default_again model f w a
+        pub default_refused : {x : Refusal} → r ≡ Err x → fail x ≡ default_again model f w a
         unfolding ◌>>◌
         default_refused u = ap (λ (o : Rule). o >> pass (more w k)) (sym (ruled_refused ruled u)) ∙ valued
 
-        pub default_kept : r ≡ ruling.Kept → pass (more w k) ≡ default_again model f w a
+        pub default_kept : r ≡ (Ok tt) → pass (more w k) ≡ default_again model f w a
         unfolding ◌>>◌
         default_kept u = ap (λ (o : Rule). o >> pass (more w k)) (sym (ruled_kept ruled u)) ∙ valued

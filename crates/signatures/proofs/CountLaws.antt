@@ -1,4 +1,6 @@
 -- What the head of a function counts: the odd ones among its names, and no more than there are.
+use Rattle.std.specs.Prelude.{Ok, Some}
+use Rattle.varint.specs.Answers.{Answer}
 use Prim.Native.Nat.{ℕ, ◌+◌, ◌-◌, ◌≤◌}
 use native.Mathlib.Omega.{arith}
 use mathlib.Core.Path.{◌≡◌, refl, ap, ◌∙◌}
@@ -9,9 +11,7 @@ use Rattle.varint.specs.Outcome.{pass, each, Judged, refuse◌at:◌when:◌}
 use Rattle.varint.specs.Bytes.{Bytes}
 use Rattle.wire.specs.declared.Field.{Field}
 use Rattle.wire.specs.declared.Cursor.{Cursor}
-use Rattle.wire.specs.declared.Sought.{Sought}
-use Rattle.wire.specs.declared.Sought.TheVariants as sought
-use Rattle.wire.specs.Answers.{contents_of, sought_says, sought_in}
+use Rattle.wire.specs.Answers.{contents_of, sought_says, sought_in, Sought}
 use Rattle.wire.specs.Message.{all_of, text, bytes_of, message}
 use Rattle.wire.proofs.Along.{all_from}
 use Rattle.wire.proofs.Fields.{all_of_ordered}
@@ -26,8 +26,6 @@ use Rattle.rules.proofs.Rules.{Adds, odds_append, naming_tells, adds_each}
 use Rattle.rules.proofs.Counting.{past}
 use Rattle.rules.proofs.NamesFew.{ordered_few}
 use Rattle.values.specs.Answers.{tally_says}
-use Rattle.values.specs.declared.tallies.Tally.{Tally}
-use Rattle.values.specs.declared.tallies.Tally.TheVariants as tally
 use Rattle.values.proofs.TallyLaws.{tally_few, Tallying, tallying_fits}
 use Rattle.messages.specs.Again.{field_names}
 use Rattle.signatures.specs.Signature.{default_rules, attribute_again, default_again, default_names, attribute_names}
@@ -89,20 +87,13 @@ module _ (model : Bytes) (f : Field) where
 -- ---- by the tallies
 
 module _ (model : Bytes) where
-  pub attribute_few : (f a : Field) {t : Tally} → ((w : Walk) → tally_says w t ≡ attribute_again model f w a) → {k : ℕ} → t ≡ tally.Counted k
+  pub attribute_few : (f a : Field) {t : Answer ℕ} → ((w : Walk) → tally_says w t ≡ attribute_again model f w a) → {k : ℕ} → t ≡ Ok k
       → k ≤ length (field_names model a)
   attribute_few f a e i = tally_few start (e start) (field_names model a) (Adds start (odds (field_names model a))) (λ v h. h.3) (attribute_adds model f start a) i
 
-  pub default_few : (f a : Field) {t : Tally} → ((w : Walk) → tally_says w t ≡ default_again model f w a) → {k : ℕ} → t ≡ tally.Counted k
+  pub default_few : (f a : Field) {t : Answer ℕ} → ((w : Walk) → tally_says w t ≡ default_again model f w a) → {k : ℕ} → t ≡ Ok k
       → k ≤ length (default_names model a)
   default_few f a e i = tally_few start (e start) (default_names model a) (Adds start (odds (default_names model a))) (λ v h. h.3) (default_adds model f start a) i
-
-  pub name_few : (empty number : ℕ) (f : Field) {t : Tally} → ((w : Walk) → tally_says w t ≡ naming empty w (name_of model number (message model f)))
-      → {k : ℕ} → t ≡ tally.Counted k → k ≤ 1
-  unfolding name_of
-  name_few empty number f e i =
-      let x = name_of model number (message model f) in
-      tally_few start (e start) (x.bytes ∷ []) (Adds start (odds (x.bytes ∷ []))) (λ v h. h.3) (naming_tells Any start x empty tt tt) i
 
 -- ---- as many names as there are fields, and each of those takes a byte
 
@@ -150,7 +141,7 @@ module _ {s : Bytes} {number end start : ℕ} {Q : Walk → Type 0} {names : Fie
   tallied_few = let few = q.few in let all = all_names in omega arith
 
   -- with those of one field more
-  pub tallied_sum : {a : Sought} → sought_says a ≡ sought_in s number c.end c.at → {f : Field} {next : Cursor} → a ≡ sought.Found f next
+  pub tallied_sum : {a : Sought} → sought_says a ≡ sought_in s number c.end c.at → {f : Field} {next : Cursor} → a ≡ Some (f, next)
       → {k : ℕ} → k ≤ length (names f)
       → odd + k ≤ length (flat_map names (all_of number (message s m)))
   tallied_sum read e h = let fits = tallying_fits q read e h in let all = all_names in omega arith

@@ -1,6 +1,7 @@
 -- What a function says before its body, as the code reads it: nothing is kept of the names that stood earlier, they are read again where they stand. No rule
 -- speaks of this; contracts of the code do, and `head_again` in proofs/HeadLaws.antt says that it is the head of a function.
-use Rattle.std.specs.Prelude.{ℕ, ◌+◌, ◌^◌, ◌≤◌, ◌<◌, Bool, not, length}
+use Rattle.varint.specs.Answers.{Answer}
+use Rattle.std.specs.Prelude.{ℕ, ◌+◌, ◌^◌, ◌≤◌, ◌<◌, Bool, not, length, Err, Ok}
 use mathlib.Core.List.{List, [], ◌∷◌, ◌++◌, flat_map}
 use Rattle.varint.specs.Outcome.{pass, fail, ◌>>=◌, ◌>>◌, each, Judged, Rule, refuse◌at:◌when:◌}
 use Rattle.wire.specs.declared.Field.{Field}
@@ -16,16 +17,11 @@ use Rattle.rules.specs.Function.{bad_default, function_imports}
 use Rattle.index.specs.Listing.{Listed}
 use Rattle.index.specs.declared.listings.Listing.{Listing}
 use Rattle.values.specs.Answers.{more}
-use Rattle.values.specs.declared.tallies.Tally.{Tally}
-use Rattle.values.specs.declared.tallies.Tally.TheVariants as tally
 use Rattle.headers.specs.Imports.{imports_in}
 use Rattle.headers.specs.Imported.{Imported}
 use Rattle.messages.specs.Around.{attributes_before}
 use Rattle.messages.specs.Again.{field_names}
-use Rattle.signatures.specs.declared.attributes.Attributes.{Attributes}
-use Rattle.signatures.specs.declared.attributes.Attributes.TheVariants as attributes
-use Rattle.signatures.specs.declared.signatures.Signature.{Signature}
-use Rattle.signatures.specs.declared.signatures.Signature.TheVariants as signature
+use Rattle.signatures.specs.declared.signatures.Declaration.{Declaration}
 
 -- ---- the rules, of the function in `f`
 
@@ -86,38 +82,33 @@ module _ (model : Bytes) where
 
 -- ---- what the answers of the code say
 
-unfoldable pub attributes_says : Walk → Attributes → Judged Walk
-attributes_says w (attributes.Listed l k) = pass (more w k)
-attributes_says w (attributes.Refused r) = fail r
-
--- What a tally says, with a listing.
-unfoldable pub with_listing : Listing → Tally → Attributes
-with_listing l (tally.Counted k) = attributes.Listed l k
-with_listing l (tally.Refused r) = attributes.Refused r
+unfoldable pub attributes_says : Walk → Answer (Listing × ℕ) → Judged Walk
+attributes_says w (Ok (l, k)) = pass (more w k)
+attributes_says w (Err r) = fail r
 
 -- So many odd names more, and room for both in 64 bits.
-unfoldable pub counting : ℕ → Attributes → Attributes
-counting k (attributes.Listed l n) = attributes.Listed l (k + n)
-counting k (attributes.Refused r) = attributes.Refused r
+unfoldable pub counting : ℕ → Answer (Listing × ℕ) → Answer (Listing × ℕ)
+counting k (Ok (l, n)) = Ok (l, k + n)
+counting k (Err r) = Err r
 
-unfoldable pub Room : ℕ → Attributes → Type 0
-Room k (attributes.Listed l n) = k + n < 2 ^ 64
-Room k (attributes.Refused r) = Unit {0}
+unfoldable pub Room : ℕ → Answer (Listing × ℕ) → Type 0
+Room k (Ok (l, n)) = k + n < 2 ^ 64
+Room k (Err r) = Unit {0}
 
-unfoldable pub signature_says : Walk → Signature → Judged Walk
-signature_says w (signature.Declared d) = pass (more w d.odd)
-signature_says w (signature.Refused r) = fail r
+unfoldable pub signature_says : Walk → Answer Declaration → Judged Walk
+signature_says w (Ok d) = pass (more w d.odd)
+signature_says w (Err r) = fail r
 
 -- The names are listed, and no more are counted than there are.
-unfoldable pub lists_all : (model : Bytes) (seed : ℕ) (cells : List ℕ) (names : List Bytes) (most : ℕ) → Attributes → Type 0
-lists_all model seed cells names most (attributes.Listed l k) = Listed model seed cells l names × (k ≤ most)
-lists_all model seed cells names most (attributes.Refused r) = Unit {0}
+unfoldable pub lists_all : (model : Bytes) (seed : ℕ) (cells : List ℕ) (names : List Bytes) (most : ℕ) → Answer (Listing × ℕ) → Type 0
+lists_all model seed cells names most (Ok (l, k)) = Listed model seed cells l names × (k ≤ most)
+lists_all model seed cells names most (Err r) = Unit {0}
 
 -- So are attributes and imports.
-unfoldable pub declares : (model : Bytes) (seed : ℕ) (cells : List ℕ) (f : Field) → Signature → Type 0
-declares model seed cells f (signature.Declared d) =
+unfoldable pub declares : (model : Bytes) (seed : ℕ) (cells : List ℕ) (f : Field) → Answer Declaration → Type 0
+declares model seed cells f (Ok d) =
     Listed model seed cells d.attributes (attributes_before model f f.next f.next)
     × Imported model seed cells d.imports (imports_in model Function-opset_import f)
     × (d.attributes.top ≤ d.imports.listing.top)
     × (d.odd ≤ 1 + length (attribute_names model f))
-declares model seed cells f (signature.Refused r) = Unit {0}
+declares model seed cells f (Err r) = Unit {0}

@@ -11,60 +11,54 @@ ghost use Rattle.index.specs.Listing.{Listed, Held};
 ghost use Rattle.values.specs.Answers.{tally_says};
 ghost use Rattle.messages.specs.Again.{field_names};
 ghost use Rattle.messages.specs.Around.{attributes_before};
-ghost use Rattle.signatures.specs.Signature.{attribute_again, attributes_says, with_listing, Room, counting, lists_all};
+ghost use Rattle.signatures.specs.Signature.{attribute_again, attributes_says, Room, counting, lists_all};
 
 use index::Listing;
 use messages::is_attribute;
 use values::numbers::FUNCTION_ATTRIBUTE;
-use values::{Ruling, Tally, test_name, uncounted};
-use varint::Refusal;
-use wire::{Field, Sought};
-
-// The listing of names, and how many of them are odd; or why one may not stand.
-#[derive(Drop)]
-pub enum Attributes {
-    Listed(Listing, u64),
-    Refused(Refusal),
-}
-
-// What a tally says, with a listing.
-pub(crate) fn listing(l: Listing, t: Tally) -> Attributes
-    ensures { result ≡ with_listing l t }
-{
-    match t {
-        Tally::Refused(r) => Attributes::Refused(r),
-        Tally::Counted(odd) => Attributes::Listed(l, odd),
-    }
-}
+use values::test_name;
+use varint::{Refusal, refused};
+use wire::Field;
 
 // So many odd names more.
-pub(crate) fn counting(odd: u64, a: Attributes) -> Attributes
+#[tactic(auto, unfolding(crate::specs::Signature::Room, crate::specs::Signature::counting))]
+pub(crate) fn counting(
+    odd: u64,
+    a: Result<(Listing, u64), Refusal>,
+) -> Result<(Listing, u64), Refusal>
     requires { Room odd a }
     ensures { result ≡ counting odd a }
 {
-    match a {
-        Attributes::Refused(r) => Attributes::Refused(r),
-        Attributes::Listed(l, more) => Attributes::Listed(l, odd + more),
-    }
+    let (l, more) = a?;
+    Ok((l, odd + more))
 }
 
 // "22, 21, 42": the name may not be one of those before it.
-fn attribute_name(model: &[u8], lists: &[u32], seed: u64, l: Listing, f: Field, a: Field) -> Tally
+fn attribute_name(
+    model: &[u8],
+    lists: &[u32],
+    seed: u64,
+    l: Listing,
+    f: Field,
+    a: Field,
+) -> Result<u64, Refusal>
     requires { Listed model.now seed lists.now l (attributes_before model.now f a.place f.start) }
     ensures { (w : Walk) → tally_says w result ≡ attribute_again model.now f w a }
 {
-    let tally = test_name(model, a, Ruling::NAME_EMPTY);
-    let Tally::Counted(odd) = tally else {
-        return tally;
-    };
+    let odd = test_name(model, a, Refusal::NAME_EMPTY)?;
     let name = a.text(model);
     if is_attribute(model, lists, seed, l, f, a.place, f.start, name) {
-        return uncounted(Ruling::FUNCTION_ATTRIBUTE_TWICE, a.place);
+        return refused(Refusal::FUNCTION_ATTRIBUTE_TWICE, a.place);
     }
-    Tally::Counted(odd)
+    Ok(odd)
 }
 
-pub(crate) fn attribute_names(model: &[u8], lists: &mut [u32], seed: u64, f: Field) -> Attributes
+pub(crate) fn attribute_names(
+    model: &[u8],
+    lists: &mut [u32],
+    seed: u64,
+    f: Field,
+) -> Result<(Listing, u64), Refusal>
     requires indexed { Indexed model.now seed (table_of lists.old) (known lists.old) }
     requires model_len_bound { length model.now < 2 ^ 32 }
     requires next_in_bounds { f.next ≤ length model.now }
@@ -79,17 +73,11 @@ pub(crate) fn attribute_names(model: &[u8], lists: &mut [u32], seed: u64, f: Fie
         whole: true,
     };
     let mut odd = 0;
-    loop {
-        let sought = c.next_of(model, FUNCTION_ATTRIBUTE);
-        let Sought::Found(a, next) = sought else {
-            return Attributes::Listed(l, odd);
-        };
-        let tally = attribute_name(model, lists, seed, l, f, a);
-        let Tally::Counted(more) = tally else {
-            return listing(l, tally);
-        };
+    while let Some((a, next)) = c.next_of(model, FUNCTION_ATTRIBUTE) {
+        let more = attribute_name(model, lists, seed, l, f, a)?;
         l = l.add(model, lists, seed, a);
         odd += more;
         c = next;
     }
+    Ok((l, odd))
 }

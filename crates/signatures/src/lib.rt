@@ -6,4 +6,4 @@ mod attributes;
 mod defaults;
 mod signatures;
 
-pub use signatures::{Declaration, Signature, read_signature};
+pub use signatures::{Declaration, read_signature};

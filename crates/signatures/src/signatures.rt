@@ -1,4 +1,5 @@
 // A function up to its inputs.
+ghost use Rattle.varint.specs.Answers.{outcome_of};
 ghost use Rattle.std.specs.Prelude.{◌≡◌, ◌+◌, ◌^◌, ◌≤◌, ◌<◌, length};
 ghost use Rattle.wire.specs.Message.{message};
 ghost use Rattle.schema.specs.Numbers.{Function-opset_import};
@@ -8,18 +9,17 @@ ghost use Rattle.rules.specs.Function.{function_imports};
 ghost use Rattle.index.specs.Table.{Indexed};
 ghost use Rattle.index.specs.Memory.{known, table_of};
 ghost use Rattle.index.specs.Listing.{Held};
-ghost use Rattle.values.specs.Answers.{ruling_says};
 ghost use Rattle.headers.specs.Imported.{ruling_of, holds};
 ghost use Rattle.messages.specs.Around.{attributes_before};
 ghost use Rattle.signatures.specs.Signature.{attributes_again, attribute_names, named_again, signature_again, attributes_says, signature_says, lists_all, declares};
 
-use crate::attributes::{Attributes, attribute_names, counting, listing};
+use crate::attributes::{attribute_names, counting};
 use crate::defaults::defaults;
-use headers::{Heading, Imports, has, opset_imports, unheaded};
+use headers::{Imports, has, opset_imports};
 use index::Listing;
 use values::numbers::{FUNCTION_NAME, FUNCTION_OPSET_IMPORT};
-use values::{Ruling, Tally, read_name, tally_of, uncounted};
-use varint::Refusal;
+use values::read_name;
+use varint::{Refusal, refused};
 use wire::Field;
 
 // What a function leaves for its body: how many of its names so far are odd, its attributes and its imports.
@@ -30,14 +30,13 @@ pub struct Declaration {
     pub imports: Imports,
 }
 
-#[derive(Drop)]
-pub enum Signature {
-    Declared(Declaration),
-    Refused(Refusal),
-}
-
 // "field 6 names, then field 11"
-fn all_attributes(model: &[u8], lists: &mut [u32], seed: u64, f: Field) -> Attributes
+fn all_attributes(
+    model: &[u8],
+    lists: &mut [u32],
+    seed: u64,
+    f: Field,
+) -> Result<(Listing, u64), Refusal>
     requires indexed { Indexed model.now seed (table_of lists.old) (known lists.old) }
     requires model_len_bound { length model.now < 2 ^ 32 }
     requires next_in_bounds { f.next ≤ length model.now }
@@ -45,24 +44,28 @@ fn all_attributes(model: &[u8], lists: &mut [u32], seed: u64, f: Field) -> Attri
     ensures listed { lists_all model.now seed lists.new (attributes_before model.now f f.next f.next) (length (attribute_names model.now f)) result }
     ensures held { Held model.now seed 0 lists.old lists.new }
 {
-    let listed = attribute_names(model, lists, seed, f);
-    let Attributes::Listed(l, odd) = listed else {
-        return listed;
-    };
+    let (l, odd) = attribute_names(model, lists, seed, f)?;
     counting(odd, defaults(model, lists, seed, l, f))
 }
 
 // "imports (12, 13, 14)"
-fn imports(model: &[u8], list: &[u8], lists: &mut [u32], seed: u64, top: usize, f: Field) -> Heading
+fn imports(
+    model: &[u8],
+    list: &[u8],
+    lists: &mut [u32],
+    seed: u64,
+    top: usize,
+    f: Field,
+) -> Result<Imports, Refusal>
     requires indexed { Indexed model.now seed (table_of lists.old) (known lists.old) }
     requires top_bound { top ≤ known lists.old }
     requires model_len_bound { length model.now < 2 ^ 32 }
-    ensures answer { ruling_says (ruling_of result) ≡ silent (function_imports model.now list.now (message model.now f)) }
+    ensures answer { outcome_of (ruling_of result) ≡ silent (function_imports model.now list.now (message model.now f)) }
     ensures imported { holds model.now Function-opset_import f seed top lists.new result }
     ensures held { Held model.now seed top lists.old lists.new }
 {
     if !has(model, f, FUNCTION_OPSET_IMPORT) {
-        return unheaded(Ruling::NO_OPSET_IMPORT, f.place);
+        return refused(Refusal::NO_OPSET_IMPORT, f.place);
     }
     opset_imports(
         model,
@@ -77,7 +80,13 @@ fn imports(model: &[u8], list: &[u8], lists: &mut [u32], seed: u64, top: usize, 
 }
 
 // "name (22, 21); 41; field 6 names, then field 11"
-fn named(model: &[u8], lists: &mut [u32], seed: u64, twice: bool, f: Field) -> Attributes
+fn named(
+    model: &[u8],
+    lists: &mut [u32],
+    seed: u64,
+    twice: bool,
+    f: Field,
+) -> Result<(Listing, u64), Refusal>
     requires indexed { Indexed model.now seed (table_of lists.old) (known lists.old) }
     requires model_len_bound { length model.now < 2 ^ 32 }
     requires next_in_bounds { f.next ≤ length model.now }
@@ -85,17 +94,9 @@ fn named(model: &[u8], lists: &mut [u32], seed: u64, twice: bool, f: Field) -> A
     ensures listed { lists_all model.now seed lists.new (attributes_before model.now f f.next f.next) (1 + length (attribute_names model.now f)) result }
     ensures held { Held model.now seed 0 lists.old lists.new }
 {
-    let none = Listing {
-        base: 0,
-        top: 0,
-        whole: true,
-    };
-    let tally = tally_of(read_name(model, f, FUNCTION_NAME, Ruling::NAME_EMPTY));
-    let Tally::Counted(odd) = tally else {
-        return listing(none, tally);
-    };
+    let (_, odd) = read_name(model, f, FUNCTION_NAME, Refusal::NAME_EMPTY)?;
     if twice {
-        return listing(none, uncounted(Ruling::FUNCTION_TWICE, f.place));
+        return refused(Refusal::FUNCTION_TWICE, f.place);
     }
     counting(odd, all_attributes(model, lists, seed, f))
 }
@@ -108,7 +109,7 @@ pub fn read_signature(
     seed: u64,
     twice: bool,
     f: Field,
-) -> Signature
+) -> Result<Declaration, Refusal>
     requires indexed { Indexed model.now seed (table_of lists.old) (known lists.old) }
     requires model_len_bound { length model.now < 2 ^ 32 }
     requires next_in_bounds { f.next ≤ length model.now }
@@ -116,15 +117,11 @@ pub fn read_signature(
     ensures declared { declares model.now seed lists.new f result }
     ensures held { Held model.now seed 0 lists.old lists.new }
 {
-    match named(model, lists, seed, twice, f) {
-        Attributes::Refused(r) => Signature::Refused(r),
-        Attributes::Listed(l, odd) => match imports(model, list, lists, seed, l.top, f) {
-            Heading::Refused(r) => Signature::Refused(r),
-            Heading::Imported(imports) => Signature::Declared(Declaration {
-                odd: odd,
-                attributes: l,
-                imports: imports,
-            }),
-        },
-    }
+    let (attributes, odd) = named(model, lists, seed, twice, f)?;
+    let imports = imports(model, list, lists, seed, attributes.top, f)?;
+    Ok(Declaration {
+        odd,
+        attributes,
+        imports,
+    })
 }

@@ -13,7 +13,8 @@ pub extern "C" fn spell_c_spell(name: &[u8]) -> u64
     ensures { result ≡ numbered (spelled name.now) }
 {
     match spell(name) {
-        Spelling::WellFormed(odd) => odd,
-        Spelling::Malformed => 2,
+        Spelling::Identifier => 0,
+        Spelling::OtherText => 1,
+        Spelling::NotUtf8 => 2,
     }
 }

@@ -1,13 +1,14 @@
 -- Identifiers byte by byte: the class that a table gives a byte, and a name as a loop goes through it.
-use Prim.Native.Nat.{ℕ, zero, suc, ◌+◌, ◌≤◌, ◌<◌}
+use Prim.Native.Nat.{ℕ, zero, suc, ◌+◌, ◌-◌, ◌≤◌, ◌<◌}
 use native.Mathlib.Omega.{arith}
 use native.Mathlib.Numerals.{add-one}
 use mathlib.Core.Path.{◌≡◌, refl, sym, ap, ◌∙◌}
 use mathlib.Core.Logic.{◌⊎◌, inl, inr}
 use mathlib.Core.Bool.{Bool, true, false, not, ◌&&◌, ◌||◌, true≢false}
 use mathlib.Core.List.{[], ◌∷◌}
-use lib.ListN.{length, get_or, drop, drop_of_length-le}
-use lib.Seq.{drop-cons}
+use lib.ListN.{length, get_or, take, drop, drop_of_length-le, length-drop}
+use lib.Seq.{drop-cons, take_all}
+use Rattle.std.proofs.lemmas.List.{get_or-drop}
 use lib.Dec.{eqb, leb}
 use borrow.Author.Tests.{eqb-true, ne_eqb, le-leb, lt-leb}
 use Rattle.varint.specs.Bytes.{Bytes}
@@ -70,14 +71,27 @@ unfolding identifier
 name_empty [] h = refl
 name_empty (b ∷ more) h = absurd (omega arith)
 
-name_first : (name : Bytes) → (length name ≡ 0 → ⊥) → identifier name ≡ is_letter (get_or name 0 0) && word (drop 1 name)
+name_first : (name : Bytes) → 1 ≤ length name → identifier name ≡ is_letter (get_or name 0 0) && word (drop 1 name)
 unfolding identifier
-name_first [] h = absurd (h refl)
+name_first [] h = absurd (omega arith)
 name_first (b ∷ more) h = refl
 
 word_at : (name : Bytes) (i : ℕ) → i < length name → word (drop i name) ≡ (is_letter (get_or name i 0) || is_digit (get_or name i 0)) && word (drop (i + 1) name)
 unfolding word
 word_at name i h = rw (add-one, drop-cons name i 0 h) refl
+
+-- the bytes behind the first, as they are lent
+abbrev Rest : Bytes → Bytes
+Rest name = take (length name - 1) (drop 1 name)
+
+rest_is : (name : Bytes) → Rest name ≡ drop 1 name
+rest_is name = take_all (length name - 1) (drop 1 name) (omega (arith, length-drop 1 name))
+
+pub rest_length : (name : Bytes) → length (Rest name) ≡ length name - 1
+rest_length name = ap (λ (x : Bytes). length x) (rest_is name) ∙ length-drop 1 name
+
+rest_at : (name : Bytes) (i : ℕ) → get_or (Rest name) i 0 ≡ get_or name (i + 1) 0
+rest_at name i = let e : 1 + i ≡ i + 1 = omega arith in rw (rest_is name, get_or-drop, e) refl
 
 -- what is known of the first r bytes, where no identifier goes on
 abbrev pub Begun : Bytes → ℕ → Type 0
@@ -90,11 +104,11 @@ pub record Part (name : Bytes) (i : ℕ) : Type 0 where
   pub rest : word (drop i name) ≡ identifier name
   pub ascii : well_formed (drop i name) ≡ well_formed name
 
-pub part_empty : (name : Bytes) → length name ≡ 0 → Begun name 0
-part_empty name h = (omega arith, (name_empty name h, refl))
+pub part_empty : (name : Bytes) → length name < 1 → Begun name 0
+part_empty name h = (omega arith, (name_empty name (omega arith), refl))
 
 -- t is the answer of the test of the first byte
-module _ (name : Bytes) (some : length name ≡ 0 → ⊥) (t : Bool) (et : t ≡ is_letter (get_or name 0 0)) where
+module _ (name : Bytes) (some : 1 ≤ length name) (t : Bool) (et : t ≡ is_letter (get_or name 0 0)) where
   first_by : identifier name ≡ t && word (drop 1 name)
   first_by = name_first name some ∙ ap (λ (u : Bool). u && word (drop 1 name)) (sym et)
 
@@ -106,20 +120,37 @@ module _ (name : Bytes) (some : length name ≡ 0 → ⊥) (t : Bool) (et : t �
       let a = byte_ascii (get_or name 0 0) (sym (or_true (is_digit (get_or name 0 0)) et e)) in
       record { some = omega arith; inside = omega arith; rest = sym (rw e at first_by); ascii = sym (ascii_at name 0 (omega arith) a) }
 
-module _ {name : Bytes} {i : ℕ} (q : Part name i) where
-  pub part_end : length name ≤ i → Begun name i
-  unfolding word
-  part_end h = (q.inside, (sym q.rest ∙ ap word (drop_of_length-le name h) ∙ simp (le-leb 1 i q.some, le-leb (length name) i h), q.ascii))
+whole : {name : Bytes} {i : ℕ} → Part name i → length name ≤ i → Begun name i
+unfolding word
+whole {name} {i} q h = (q.inside, (sym q.rest ∙ ap word (drop_of_length-le name h) ∙ simp (le-leb 1 i q.some, le-leb (length name) i h), q.ascii))
 
-  -- t is the answer of the test of the byte at i
-  module _ (h : i < length name) (t : Bool) (et : t ≡ (is_letter (get_or name i 0) || is_digit (get_or name i 0))) where
-    part_by : t && word (drop (i + 1) name) ≡ identifier name
-    part_by = ap (λ (u : Bool). u && word (drop (i + 1) name)) et ∙ sym (word_at name i h) ∙ q.rest
+-- all but the first i of the bytes behind the first are left
+module _ {name : Bytes} {i : ℕ} (q : Part name (i + 1)) where
+  pub part_end : length (Rest name) ≤ i → Begun name (length name)
+  part_end h =
+      let e : i + 1 ≡ length name = omega (arith, q.inside, rest_length name) in
+      rw e at (whole q (omega arith))
 
-    pub part_stop : t ≡ false → Begun name i
-    part_stop e = (q.inside, (sym (rw e at part_by) ∙ simp (le-leb 1 i q.some, lt-leb (length name) i h), q.ascii))
+  -- t is the answer of the test of the next byte
+  module _ (h : i < length (Rest name)) (t : Bool) (et : t ≡ (is_letter (get_or (Rest name) i 0) || is_digit (get_or (Rest name) i 0))) where
+    part_inside : i + 1 < length name
+    part_inside = omega (arith, rest_length name)
 
-    pub part_next : t ≡ true → Part name (i + 1)
+    part_test : t ≡ (is_letter (get_or name (i + 1) 0) || is_digit (get_or name (i + 1) 0))
+    part_test = et ∙ ap (λ (b : ℕ). is_letter b || is_digit b) (rest_at name i)
+
+    part_by : t && word (drop (i + 1 + 1) name) ≡ identifier name
+    part_by = ap (λ (u : Bool). u && word (drop (i + 1 + 1) name)) part_test ∙ sym (word_at name (i + 1) part_inside) ∙ q.rest
+
+    pub part_stop : t ≡ false → Begun name (i + 1)
+    part_stop e = (q.inside, (sym (rw e at part_by) ∙ simp (le-leb 1 (i + 1) q.some, lt-leb (length name) (i + 1) part_inside), q.ascii))
+
+    pub part_next : t ≡ true → Part name (i + 1 + 1)
     part_next e =
-        let a = byte_ascii (get_or name i 0) (sym et ∙ e) in
-        record { some = omega arith; inside = omega arith; rest = rw e at part_by; ascii = sym (ascii_at name i h a) ∙ q.ascii }
+        let a = byte_ascii (get_or name (i + 1) 0) (sym part_test ∙ e) in
+        record {
+          some = omega arith;
+          inside = omega (arith, part_inside);
+          rest = rw e at part_by;
+          ascii = sym (ascii_at name (i + 1) part_inside a) ∙ q.ascii;
+        }

@@ -1,10 +1,11 @@
 -- What one reading of a name tells of it.
-use Prim.Native.Nat.{ℕ, ◌≤◌, ◌<◌}
+use Prim.Native.Nat.{ℕ, ◌-◌, ◌≤◌, ◌<◌}
 use native.Mathlib.Omega.{arith}
 use mathlib.Core.Path.{◌≡◌, sym, ap, ap₂, ◌∙◌}
 use mathlib.Core.Bool.{Bool, true, false, ◌&&◌, and-false}
 use mathlib.Core.Option.{Option, none, some}
-use lib.ListN.{length, drop, drop_of_length-le}
+use lib.ListN.{length, take, drop, drop_of_length-le, length-drop}
+use lib.Seq.{take_all}
 use lib.Dec.{leb}
 use borrow.Author.Tests.{le-leb, lt-leb}
 use Rattle.varint.specs.Bytes.{Bytes}
@@ -30,15 +31,18 @@ module _ (x : Bytes) where
 
   module _ (r : ℕ) (q : Begun x r) where
     -- t is the answer of the test of the other bytes
-    module _ (h : r < length x) (t : Bool) (et : t ≡ well_formed (drop r x)) where
+    module _ (h : r < length x) (t : Bool) (et : t ≡ well_formed (take (length x - r) (drop r x))) where
+      rest_by : t ≡ well_formed x
+      rest_by = et ∙ ap well_formed (take_all (length x - r) (drop r x) (omega (arith, length-drop r x))) ∙ q.1.1
+
       other : identifier x ≡ false
       other = q.1.0 ∙ ap (λ (u : Bool). leb 1 r && u) (lt-leb (length x) r h) ∙ and-false (leb 1 r)
 
       pub spelled_odd : t ≡ true → some 1 ≡ spelled x
-      spelled_odd e = spelled_by true false (sym q.1.1 ∙ sym et ∙ e) other
+      spelled_odd e = spelled_by true false (sym rest_by ∙ e) other
 
       pub spelled_not : t ≡ false → none ≡ spelled x
-      spelled_not e = spelled_by false false (sym q.1.1 ∙ sym et ∙ e) other
+      spelled_not e = spelled_by false false (sym rest_by ∙ e) other
 
     module _ (h : length x ≤ r) where
       whole : well_formed x ≡ true

@@ -41,20 +41,18 @@ fn part_by(classes: &[u8; 256], name: &[u8]) -> usize
     ensures name_value { identifier name.now ≡ (leb 1 result && leb (length name.now) result) }
     ensures name_value_2 { well_formed (drop result name.now) ≡ well_formed name.now }
 {
-    if name.len() == 0 {
+    let [first, rest @ ..] = name else {
+        return 0;
+    };
+    if !is_letter(classes, *first) {
         return 0;
     }
-    if !is_letter(classes, name[0]) {
-        return 0;
-    }
-    let mut i = 1;
-    while i < name.len() {
-        if !is_identifier_byte(classes, name[i]) {
-            return i;
+    for (i, b) in rest.iter().enumerate() {
+        if !is_identifier_byte(classes, *b) {
+            return i + 1;
         }
-        i += 1;
     }
-    i
+    name.len()
 }
 
 // How many bytes at the start an identifier could begin with. They are ASCII, so that a test for UTF-8 may go on behind them.

@@ -5,11 +5,12 @@ ghost use Rattle.spelling.specs.Spelling.{spelling_says, spelled};
 use crate::identifiers::identifier_part;
 use crate::utf8::is_well_formed;
 
-// A well-formed name, with 1 where it is not an identifier and 0 where it is; or bytes that are not UTF-8.
-#[derive(Drop)]
+// What a name is.
+#[derive(Clone, Copy)]
 pub enum Spelling {
-    WellFormed(u64),
-    Malformed,
+    Identifier,
+    OtherText,
+    NotUtf8,
 }
 
 pub fn spell(name: &[u8]) -> Spelling
@@ -17,14 +18,14 @@ pub fn spell(name: &[u8]) -> Spelling
 {
     let part = identifier_part(name);
     if part < name.len() {
-        if is_well_formed(name, part) {
-            return Spelling::WellFormed(1);
+        if is_well_formed(&name[part..]) {
+            return Spelling::OtherText;
         }
-        return Spelling::Malformed;
+        return Spelling::NotUtf8;
     }
     // The empty name is no identifier.
     if part == 0 {
-        return Spelling::WellFormed(1);
+        return Spelling::OtherText;
     }
-    Spelling::WellFormed(0)
+    Spelling::Identifier
 }

@@ -1,7 +1,13 @@
 -- The values of attributes: the table of carriers as code has it, and one pass over an attribute's fields for all its carriers.
+use Rattle.std.specs.Prelude.{is_some, Some, None}
+use Rattle.wire.specs.Answers.{Sought, sought_says, found_in}
+use Rattle.wire.proofs.MessageLaws.{missing, found}
+use Rattle.std.specs.Prelude.{Err, Ok}
+use Rattle.std.specs.declared.option.Option as code
+use Rattle.varint.specs.Answers.{Answer, outcome_of, option_of}
 use Prim.Native.Nat.{ℕ, ◌-◌, ◌≤◌, ◌<◌}
 use native.Mathlib.Omega.{arith}
-use mathlib.Core.Path.{◌≡◌, refl, sym, ap, ◌∙◌, subst}
+use mathlib.Core.Path.{◌≡◌, refl, sym, ap, ◌∙◌}
 use mathlib.Core.Bool.{Bool, true, false, not, ◌&&◌, ◌||◌, true≢false}
 use mathlib.Core.List.{List, [], ◌∷◌, map}
 use mathlib.Core.Option.{Option, none, some}
@@ -11,14 +17,12 @@ use Rattle.varint.specs.Outcome.{pass}
 use Rattle.varint.specs.declared.Refusal.{Refusal}
 use Rattle.wire.specs.declared.Field.{Field}
 use Rattle.wire.specs.declared.Cursor.{Cursor}
-use Rattle.wire.specs.declared.FieldAnswer.{FieldAnswer}
-use Rattle.wire.specs.declared.FieldAnswer.TheVariants as field_answer
 use Rattle.varint.specs.Lists.{is_empty, present, keep, contains, lookup}
 use Rattle.varint.specs.Bytes.{Bytes}
 use Rattle.wire.specs.Wire.{field, fields}
 use Rattle.wire.specs.Message.{Message, all_of, first_of, number_of, message}
-use Rattle.wire.specs.Answers.{contents_of, field_says, with_cursor}
-use Rattle.varint.proofs.Lists.{some_same, or_swap, no_first, true_T, T_true, T_false, subset, contains_subset, NoneOf, none_contained}
+use Rattle.wire.specs.Answers.{contents_of, with_cursor}
+use Rattle.varint.proofs.Lists.{or_swap, no_first, true_T, T_true, T_false, subset, contains_subset, NoneOf, none_contained}
 use Rattle.wire.proofs.CursorLaws.{answer_read, answer_refused}
 use Rattle.wire.proofs.Reading.{Fits, field_tells}
 use Rattle.wire.proofs.Fields.{fields_done, fields_step, fields_stop}
@@ -30,33 +34,6 @@ use Rattle.rules.specs.Function.{bad_default}
 
 pub contained_none : (n : ℕ) (l m : List ℕ) → T (subset l m) → NoneOf n m → false ≡ contains n l
 contained_none n l m s h = sym (T_false (contains n l) (not_T (contains n l) (λ t. none_contained n m h (contains_subset l m n s t))))
-
-abbrev pub types : List (ℕ × ℕ) → List ℕ
-types l = map (λ e. e.0) l
-
-lookup_none : (n : ℕ) (l : List (ℕ × ℕ)) → false ≡ contains n (types l) → none ≡ lookup n l
-unfolding contains lookup
-lookup_none n [] h = refl
-lookup_none n (e ∷ l) h = go (eqb n e.0) refl h (lookup_none n l)
-  where
-    go : (b : Bool) → eqb n e.0 ≡ b → false ≡ (b || contains n (types l)) → (false ≡ contains n (types l) → none ≡ lookup n l)
-        → ◌≡◌ {A = Option ℕ} none (elim b [ true ↦ some e.1 | false ↦ lookup n l ])
-    go true q k ih = absurd (true≢false (sym k))
-    go false q k ih = ih k
-
--- ---- the table
-
-abbrev carrier_by : Option ℕ → ℕ
-carrier_by o = elim o [ none ↦ 0 | some n ↦ n ]
-
-pub carrier_at : (m : ℕ) {n : ℕ} → n ≡ m → ◌≡◌ {A = ℕ} (elim (lookup m carriers) [ none ↦ 0 | some k ↦ k ]) (elim (lookup n carriers) [ none ↦ 0 | some k ↦ k ])
-carrier_at m e = ap (λ (n : ℕ). elim (lookup n carriers) [ none ↦ 0 | some k ↦ k ]) (sym e)
-
-pub carrier_none : (n : ℕ) (l : List ℕ) → T (subset (types carriers) l) → NoneOf n l → ◌≡◌ {A = ℕ} 0 (elim (lookup n carriers) [ none ↦ 0 | some k ↦ k ])
-carrier_none n l s h = ap carrier_by (lookup_none n carriers (contained_none n (types carriers) l s h))
-
-pub contains_at : (l : List ℕ) (m : ℕ) {n : ℕ} → n ≡ m → contains m l ≡ contains n l
-contains_at l m e = ap (λ (n : ℕ). contains n l) (sym e)
 
 -- ---- the fields that hold graphs
 
@@ -116,13 +93,6 @@ unfolding foreign all_of Holding
 foreign_place mine p q [] fs = refl
 foreign_place mine p q (e ∷ cs) fs = ap (λ (x : Bool). (not (eqb e.1 mine) && not (is_empty (keep (λ g. eqb e.1 g.number) fs))) || x) (foreign_place mine p q cs fs)
 
-module _ (mine number : ℕ) where
-  pub foreign_own : number ≡ mine → false ≡ (not (eqb number mine) && contains number carrier_numbers)
-  foreign_own e = ap (λ (b : Bool). not b && contains number carrier_numbers) (sym (eq-eqb number mine e))
-
-  pub foreign_other : (number ≡ mine → ⊥) → {b : Bool} → b ≡ contains number carrier_numbers → b ≡ (not (eqb number mine) && contains number carrier_numbers)
-  foreign_other h e = e ∙ ap (λ (b : Bool). not b && contains number carrier_numbers) (sym (ne_eqb number mine h))
-
 -- is there another carrier from `pos` on?
 pub foreign_from : (model : Bytes) → (mine end pos : ℕ) → Bool
 foreign_from model mine end pos = foreign mine carriers (Holding 0 (fields model end pos))
@@ -144,8 +114,8 @@ module _ {model : Bytes} {mine end start : ℕ} {c : Cursor} (q : Looking model 
   unfolding foreign_from
   look_done h = sym (ap (λ (l : List Field). foreign mine carriers (Holding 0 l)) (fields_done model end c.at (rw q.ends at h)) ∙ foreign_nothing mine 0 carriers) ∙ q.rest
 
-  module _ (h : c.at < c.end) {r : FieldAnswer} (read : field_says r ≡ with_cursor c.end (field model c.end c.at)) where
-    pub look_stop : {x : Refusal} → r ≡ field_answer.Refused x → false ≡ foreign_from model mine end start
+  module _ (h : c.at < c.end) {r : Answer (Field × Cursor)} (read : outcome_of r ≡ with_cursor c.end (field model c.end c.at)) where
+    pub look_stop : {x : Refusal} → r ≡ Err x → false ≡ foreign_from model mine end start
     unfolding foreign_from
     look_stop {x} e =
         sym (ap (λ (l : List Field). foreign mine carriers (Holding 0 l))
@@ -153,7 +123,7 @@ module _ {model : Bytes} {mine end start : ℕ} {c : Cursor} (q : Looking model 
         ∙ foreign_nothing mine 0 carriers)
         ∙ q.rest
 
-    module _ {f : Field} {next : Cursor} (e : r ≡ field_answer.Read f next) where
+    module _ {f : Field} {next : Cursor} (e : r ≡ Ok (f, next)) where
       went : (field model end c.at ≡ pass f) × (next ≡ record { at = f.next; end = end })
       went = rw q.ends at (answer_read model c read e)
 
@@ -188,61 +158,27 @@ module _ {model : Bytes} {mine end start : ℕ} {c : Cursor} (q : Looking model 
 
 -- ---- the value
 
-abbrev Absent : Option ℕ → Type 0
-Absent none = Unit {0}
-Absent (some n) = ⊥
+unfoldable Valued : (kind : ℕ) → Message → Option ℕ → Bool
+Valued kind a o = elim o [ none ↦ true | some n ↦ foreign n carriers a || (needed kind && is_empty (all_of n a)) ]
 
--- no field has the number 0, so that 0 can say that a type has no carrier
-nonzero : (n : ℕ) (l : List (ℕ × ℕ)) → contains 0 (map (λ c. c.1) l) ≡ false → lookup n l ≡ some 0 → ⊥
-unfolding lookup contains
-nonzero n [] h e = subst Absent e tt
-nonzero n (c ∷ l) h e = go (eqb n c.0) (eqb 0 c.1) refl h e (nonzero n l)
-  where
-    go : (b d : Bool) → eqb 0 c.1 ≡ d → (d || contains 0 (map (λ x. x.1) l)) ≡ false
-        → ◌≡◌ {A = Option ℕ} (elim b [ true ↦ some c.1 | false ↦ lookup n l ]) (some 0)
-        → (contains 0 (map (λ x. x.1) l) ≡ false → lookup n l ≡ some 0 → ⊥)
-        → ⊥
-    go b true i k x ih = true≢false k
-    go false false i k x ih = ih k x
-    go true false i k x ih = true≢false (sym (eq-eqb 0 c.1 (sym (some_same c.1 0 x))) ∙ i)
-
-zero_free : contains 0 (map (λ c. c.1) carriers) ≡ false
-unfolding contains carriers
-zero_free = refl
-
-module _ (model : Bytes) (a : Field) {kind : ℕ} (k : kind ≡ number_of Attribute-type (message model a)) {mine : ℕ}
-    (c : mine ≡ elim (lookup kind carriers) [ none ↦ 0 | some n ↦ n ]) where
-  -- the type is outside 1..14, or not
-  untyped : mine ≡ 0 → lookup kind carriers ≡ none
-  untyped h = go (lookup kind carriers) refl (sym c ∙ h)
-    where
-      go : (o : Option ℕ) → lookup kind carriers ≡ o → carrier_by o ≡ 0 → o ≡ none
-      go none e z = refl
-      go (some n) e z = absurd (nonzero kind carriers zero_free (e ∙ ap some z))
-
-  typed : (mine ≡ 0 → ⊥) → lookup kind carriers ≡ some mine
-  typed h = go (lookup kind carriers) c
-    where
-      go : (o : Option ℕ) → mine ≡ carrier_by o → o ≡ some mine
-      go none e = absurd (h e)
-      go (some n) e = ap some (sym e)
-
-  Valued : Option ℕ → Bool
-  Valued o = elim o [ none ↦ true | some n ↦ foreign n carriers (message model a) || (needed kind && is_empty (all_of n (message model a))) ]
-
-  value_by : {o : Option ℕ} → lookup kind carriers ≡ o → Valued o ≡ bad_value (number_of Attribute-type (message model a)) (message model a)
+module _ (model : Bytes) (a : Field) {kind : ℕ} (k : kind ≡ number_of Attribute-type (message model a)) {o : code.Option ℕ}
+    (c : option_of o ≡ lookup kind carriers) where
+  value_by : {p : code.Option ℕ} → o ≡ p
+      → Valued kind (message model a) (option_of p) ≡ bad_value (number_of Attribute-type (message model a)) (message model a)
   unfolding bad_value Valued
-  value_by e = ap Valued (sym e) ∙ ap (λ (n : ℕ). bad_value n (message model a)) k
+  value_by e = ap (Valued kind (message model a)) (ap option_of (sym e) ∙ c) ∙ ap (λ (n : ℕ). bad_value n (message model a)) k
 
-  pub value_outside : mine ≡ 0 → true ≡ bad_value (number_of Attribute-type (message model a)) (message model a)
-  unfolding Valued
-  value_outside h = value_by (untyped h)
+  -- the type is outside 1..14,
+  pub value_outside : o ≡ None → true ≡ bad_value (number_of Attribute-type (message model a)) (message model a)
+  unfolding Valued option_of
+  value_outside h = value_by h
 
-  module _ (h : mine ≡ 0 → ⊥) where
+  -- or it has the carrier `mine`
+  module _ {mine : ℕ} (h : o ≡ Some mine) where
     valued : {b n i : Bool} → b ≡ foreign mine carriers (message model a) → n ≡ needed kind → i ≡ is_empty (all_of mine (message model a))
         → (b || (n && i)) ≡ bad_value (number_of Attribute-type (message model a)) (message model a)
-    unfolding Valued
-    valued e f g = rw (e, f, g) (value_by (typed h))
+    unfolding Valued option_of
+    valued e f g = rw (e, f, g) (value_by h)
 
     module _ {b : Bool} (e : b ≡ foreign mine carriers (message model a)) where
       pub value_foreign : b ≡ true → true ≡ bad_value (number_of Attribute-type (message model a)) (message model a)
@@ -267,22 +203,39 @@ module _ (model : Bytes) (a : Field) {kind : ℕ} (k : kind ≡ number_of Attrib
           unfolding first_of present
           value_has g = held (no_first (all_of mine (message model a)) ∙ ap (λ (o : Option Field). not (present o)) (sym g))
 
+          -- by what was looked for; b says that nothing was found
+          pub value_carried : (r : Sought) → sought_says r ≡ found_in a.next (first_of mine (message model a)) → (b : Bool) → is_some r ≡ not b
+              → b ≡ bad_value (number_of Attribute-type (message model a)) (message model a)
+          value_carried None e true k = value_lacks (missing model mine a None e refl)
+          value_carried None e false k = absurd (true≢false (sym k))
+          value_carried (Some (f, c)) e false k = value_has (found model mine a (Some (f, c)) e refl)
+          value_carried (Some (f, c)) e true k = absurd (true≢false k)
+
 -- ---- references and defaults
 
+untyped : (o : code.Option ℕ) (b : Bool) → is_some o ≡ not b → not (present (option_of o)) ≡ b
+unfolding present option_of
+untyped None true q = refl
+untyped None false q = absurd (true≢false (sym q))
+untyped (Some n) true q = absurd (true≢false q)
+untyped (Some n) false q = refl
+
 module _ (model : Bytes) (a : Field) {kind : ℕ} (k : kind ≡ number_of Attribute-type (message model a)) where
-  reference_by : {o : Option ℕ} → lookup kind carriers ≡ o → (not (present o) || foreign 0 carriers (message model a)) ≡ bad_reference (number_of Attribute-type (message model a)) (message model a)
-  unfolding bad_reference
-  reference_by e = ap (λ (o : Option ℕ). not (present o) || foreign 0 carriers (message model a)) (sym e) ∙ ap (λ (n : ℕ). bad_reference n (message model a)) k
+  -- b says that the type is outside 1..14
+  module _ (o : code.Option ℕ) (c : option_of o ≡ lookup kind carriers) {b : Bool} (q : is_some o ≡ not b) where
+    reference_by : (d : Bool) → b ≡ d
+        → (d || foreign 0 carriers (message model a)) ≡ bad_reference (number_of Attribute-type (message model a)) (message model a)
+    unfolding bad_reference
+    reference_by d h =
+        ap (λ (x : Bool). x || foreign 0 carriers (message model a)) (sym (untyped o b q ∙ h) ∙ ap (λ (p : Option ℕ). not (present p)) c)
+        ∙ ap (λ (n : ℕ). bad_reference n (message model a)) k
 
-  module _ {mine : ℕ} (c : mine ≡ elim (lookup kind carriers) [ none ↦ 0 | some n ↦ n ]) where
-    pub reference_untyped : mine ≡ 0 → true ≡ bad_reference (number_of Attribute-type (message model a)) (message model a)
-    unfolding present
-    reference_untyped h = reference_by (untyped model a k c h)
+    pub reference_untyped : b ≡ true → true ≡ bad_reference (number_of Attribute-type (message model a)) (message model a)
+    reference_untyped h = reference_by true h
 
-    pub reference_typed : (mine ≡ 0 → ⊥) → {b : Bool} → b ≡ foreign 0 carriers (message model a)
-        → b ≡ bad_reference (number_of Attribute-type (message model a)) (message model a)
-    unfolding present
-    reference_typed h e = e ∙ reference_by (typed model a k c h)
+    pub reference_typed : b ≡ false → {d : Bool} → d ≡ foreign 0 carriers (message model a)
+        → d ≡ bad_reference (number_of Attribute-type (message model a)) (message model a)
+    reference_typed h e = e ∙ reference_by false h
 
   -- n is a type that the test of the code names
   pub default_graph : {n : ℕ} → kind ≡ n → T (contains n (5 ∷ 10 ∷ [])) → true ≡ bad_default (number_of Attribute-type (message model a)) (message model a)

@@ -1,4 +1,6 @@
 -- Names in the order of the code's tests.
+use Rattle.std.specs.Prelude.{Err, Ok}
+use Rattle.varint.specs.Answers.{Answer}
 use Prim.Native.Nat.{ℕ, ◌≤◌}
 use native.Mathlib.Omega.{arith}
 use mathlib.Core.Path.{◌≡◌, refl, sym, ap, ◌∙◌}
@@ -14,7 +16,7 @@ use Rattle.varint.specs.Bytes.{Bytes}
 use Rattle.wire.specs.Message.{first_of, place_of, text, bytes_of, message}
 use Rattle.varint.proofs.Lists.{T_false}
 use Rattle.varint.proofs.Answers.{says}
-use Rattle.varint.proofs.Passing.{fail_no_pass, pass_same, fail_same, passed_seq, passed_rule}
+use Rattle.varint.proofs.Passing.{fail_no_pass, pass_same, passed_seq, passed_rule}
 use Rattle.varint.proofs.Refusing.{when_broken, when_kept}
 use Rattle.rules.specs.Names.{Name, name_of, name_in}
 use Rattle.spelling.specs.Identifier.{oddity}
@@ -22,13 +24,8 @@ use Rattle.spelling.specs.Utf8.{well_formed}
 use Rattle.rules.specs.Walk.{Walk, start, with_tested, tested, naming}
 use Rattle.spelling.specs.Spelling.{spelling_says, spelled}
 use Rattle.spelling.specs.declared.spellings.Spelling.{Spelling}
-use Rattle.spelling.specs.declared.spellings.Spelling.TheVariants as spelling_answer
 use Rattle.spelling.proofs.SpellingLaws.{oddity_few}
-use Rattle.values.specs.Answers.{more, tally_says, naming_says, name_field, tally_of}
-use Rattle.values.specs.declared.tallies.Tally.{Tally}
-use Rattle.values.specs.declared.tallies.Tally.TheVariants as tally
-use Rattle.values.specs.declared.names.Naming.{Naming}
-use Rattle.values.specs.declared.names.Naming.TheVariants as naming_answer
+use Rattle.values.specs.Answers.{more, tally_says, naming_says, name_field}
 use Rattle.values.proofs.TallyLaws.{tallied, untallied}
 
 pub empty_none : (l : Bytes) → length l ≡ 0 → is_empty l ≡ true
@@ -55,17 +52,15 @@ tested_spelled w x = go (well_formed x.bytes)
     go true = refl
     go false = refl
 
-module _ (x : Name) {s : Spelling} (e : spelling_says s ≡ spelled x.bytes) where
-  pub tested_bad : s ≡ spelling_answer.Malformed → (w : Walk) → refused 21 x.place ≡ tested w x
-  unfolding spelling_says
-  tested_bad k w = ap (Spelled w x) (says spelling_says e k) ∙ tested_spelled w x
+module _ (x : Name) (s : Spelling) (e : spelling_says s ≡ spelled x.bytes) where
+  pub tested_bad : spelling_says s ≡ none → (w : Walk) → refused 21 x.place ≡ tested w x
+  tested_bad k w = ap (Spelled w x) (sym k ∙ e) ∙ tested_spelled w x
 
-  pub tested_good : {n : ℕ} → s ≡ spelling_answer.WellFormed n → (w : Walk) → pass (more w n) ≡ tested w x
-  unfolding spelling_says
-  tested_good k w = ap (Spelled w x) (says spelling_says e k) ∙ tested_spelled w x
+  pub tested_good : {n : ℕ} → spelling_says s ≡ some n → (w : Walk) → pass (more w n) ≡ tested w x
+  tested_good k w = ap (Spelled w x) (sym k ∙ e) ∙ tested_spelled w x
 
 -- no name counts more than once
-pub tested_few : (x : Name) {t : Tally} → ((w : Walk) → tally_says w t ≡ tested w x) → {k : ℕ} → t ≡ tally.Counted k → k ≤ 1
+pub tested_few : (x : Name) {t : Answer ℕ} → ((w : Walk) → tally_says w t ≡ tested w x) → {k : ℕ} → t ≡ Ok k → k ≤ 1
 unfolding tested with_tested more start
 tested_few x e i =
     let same = pass_same _ _ (passed_seq _ _ _ (tallied start (e start) i)).1 in
@@ -111,12 +106,12 @@ module _ (model : Bytes) (empty number : ℕ) (m : Field) (w : Walk) where
           ap (λ (y : Bytes). tested w (record { bytes = y; place = f.place })) t
           ∙ sym (rest k ∙ when_kept empty f.place _ (ap is_empty (sym t) ∙ empty_some x h))
 
-      module _ {c : Tally} (e : tally_says w c ≡ tested w (record { bytes = x; place = f.place })) where
-        pub name_bad : {r : Refusal} → c ≡ tally.Refused r → fail r ≡ name_field model empty number w (message model m)
+      module _ {c : Answer ℕ} (e : tally_says w c ≡ tested w (record { bytes = x; place = f.place })) where
+        pub name_bad : {r : Refusal} → c ≡ Err r → fail r ≡ name_field model empty number w (message model m)
         unfolding ◌>>=◌
         name_bad i = held (sym (untallied w e i) ∙ nonempty)
 
-        pub name_good : {n : ℕ} → c ≡ tally.Counted n
+        pub name_good : {n : ℕ} → c ≡ Ok n
             → ◌≡◌ {A = Judged (Option Field × Walk)} (pass (some f, more w n)) (name_field model empty number w (message model m))
         unfolding ◌>>=◌
         name_good {n} i = ap (λ (o : Option Field). pass (o, more w n)) k ∙ held (sym (tallied w e i) ∙ nonempty)
@@ -135,12 +130,12 @@ module _ (model : Bytes) (empty : ℕ) (f : Field) {x : Bytes} (t : x ≡ text m
       ∙ sym (when_kept empty f.place _ (ap is_empty (sym t) ∙ empty_some x h))
 
 -- t is the tally of it
-module _ (model : Bytes) (empty : ℕ) (f : Field) (t : Tally) (e : (w : Walk) → tally_says w t ≡ naming empty w (name_in model f)) where
-  pub field_some : {k : ℕ} → t ≡ tally.Counted k → is_empty (text model f) ≡ false
+module _ (model : Bytes) (empty : ℕ) (f : Field) (t : Answer ℕ) (e : (w : Walk) → tally_says w t ≡ naming empty w (name_in model f)) where
+  pub field_some : {k : ℕ} → t ≡ Ok k → is_empty (text model f) ≡ false
   unfolding naming name_in
   field_some i = T_false _ (passed_rule empty _ _ (passed_seq _ _ _ (tallied start (e start) i)).0)
 
-  pub field_few : {k : ℕ} → t ≡ tally.Counted k → k ≤ 1
+  pub field_few : {k : ℕ} → t ≡ Ok k → k ≤ 1
   unfolding naming tested with_tested more start
   field_few i =
       let same = pass_same _ _ (passed_seq _ _ _ (passed_seq _ _ _ (tallied start (e start) i)).1).1 in
@@ -148,22 +143,15 @@ module _ (model : Bytes) (empty : ℕ) (f : Field) (t : Tally) (e : (w : Walk) �
       let few = oddity_few (name_in model f).bytes in
       omega arith
 
--- what an answer says of the walk
-pub naming_tally : (w : Walk) (empty number : ℕ) (model : Bytes) (m : Field) (n : Naming)
-    → naming_says w n ≡ name_field model empty number w (message model m)
-    → tally_says w (tally_of n) ≡ naming empty w (name_of model number (message model m))
-unfolding naming_says name_field tally_of tally_says ◌>>=◌
-naming_tally w empty number model m n e = go n (naming empty w (name_of model number (message model m))) e
-  where
-    go : (a : Naming) (o : Judged Walk) → naming_says w a ≡ (o >>= λ v. pass (first_of number (message model m), v)) → tally_says w (tally_of a) ≡ o
-    go (naming_answer.Named f k) (pass v) e = ap (λ (p : Option Field × Walk). pass p.1) (pass_same _ _ e)
-    go (naming_answer.Named f k) (fail r) e = absurd (fail_no_pass _ _ (sym e))
-    go (naming_answer.Refused r) (pass v) e = absurd (fail_no_pass _ _ e)
-    go (naming_answer.Refused r) (fail s) e = ap fail (fail_same _ _ e)
+-- what a name says of the walk alone
+naming_walk : (o : Judged Walk) (x : Option Field) {a : Judged (Option Field × Walk)} → a ≡ (o >>= λ v. pass (x, v)) → (a >>= λ p. pass p.1) ≡ o
+unfolding ◌>>=◌
+naming_walk (pass v) x e = ap (λ (a : Judged (Option Field × Walk)). a >>= λ p. pass p.1) e
+naming_walk (fail r) x e = ap (λ (a : Judged (Option Field × Walk)). a >>= λ p. pass p.1) e
 
-module _ (model : Bytes) (empty number : ℕ) (m : Field) (n : Naming) (e : (w : Walk) → naming_says w n ≡ name_field model empty number w (message model m)) where
+module _ (model : Bytes) (empty number : ℕ) (m : Field) (n : Answer (Field × ℕ)) (e : (w : Walk) → naming_says w n ≡ name_field model empty number w (message model m)) where
   -- it is the message's first field of the number
-  pub named_first : {g : Field} {k : ℕ} → n ≡ naming_answer.Named g k → some g ≡ first_of number (message model m)
+  pub named_first : {g : Field} {k : ℕ} → n ≡ Ok (g, k) → some g ≡ first_of number (message model m)
   unfolding naming_says name_field ◌>>=◌
   named_first {g} {k} i = go (naming empty start (name_of model number (message model m))) (says (naming_says start) (e start) i)
     where
@@ -174,7 +162,7 @@ module _ (model : Bytes) (empty number : ℕ) (m : Field) (n : Naming) (e : (w :
       go (fail r) h = absurd (fail_no_pass _ _ (sym h))
 
   -- so the name is what it holds
-  pub named_name : {g : Field} {k : ℕ} → n ≡ naming_answer.Named g k → name_in model g ≡ name_of model number (message model m)
+  pub named_name : {g : Field} {k : ℕ} → n ≡ Ok (g, k) → name_in model g ≡ name_of model number (message model m)
   unfolding name_in name_of bytes_of place_of
   named_name i =
       ap (λ (o : Option Field). record {
@@ -183,25 +171,22 @@ module _ (model : Bytes) (empty number : ℕ) (m : Field) (n : Naming) (e : (w :
       }) (named_first i)
 
   module _ (w : Walk) where
-    pub named_tally : tally_says w (tally_of n) ≡ naming empty w (name_of model number (message model m))
-    named_tally = naming_tally w empty number model m n (e w)
+    pub named_passes : {g : Field} {k : ℕ} → n ≡ Ok (g, k) → pass (more w k) ≡ naming empty w (name_of model number (message model m))
+    unfolding naming_says name_field ◌>>=◌
+    named_passes i = naming_walk _ (first_of number (message model m)) (says (naming_says w) (e w) i)
 
-    pub named_passes : {g : Field} {k : ℕ} → n ≡ naming_answer.Named g k → pass (more w k) ≡ naming empty w (name_of model number (message model m))
-    unfolding tally_says tally_of
-    named_passes i = ap (λ (a : Naming). tally_says w (tally_of a)) (sym i) ∙ named_tally
-
-    pub named_fails : {r : Refusal} → n ≡ naming_answer.Refused r → fail r ≡ naming empty w (name_of model number (message model m))
-    unfolding tally_says tally_of
-    named_fails i = ap (λ (a : Naming). tally_says w (tally_of a)) (sym i) ∙ named_tally
+    pub named_fails : {r : Refusal} → n ≡ Err r → fail r ≡ naming empty w (name_of model number (message model m))
+    unfolding naming_says name_field ◌>>=◌
+    named_fails i = naming_walk _ (first_of number (message model m)) (says (naming_says w) (e w) i)
 
   -- and is not empty
-  pub named_some : {g : Field} {k : ℕ} → n ≡ naming_answer.Named g k → is_empty (text model g) ≡ false
+  pub named_some : {g : Field} {k : ℕ} → n ≡ Ok (g, k) → is_empty (text model g) ≡ false
   unfolding naming name_in
   named_some i =
       ap (λ (x : Name). is_empty x.bytes) (named_name i)
       ∙ T_false _ (passed_rule empty _ _ (passed_seq _ _ _ (sym (named_passes start i))).0)
 
-  pub named_few : {g : Field} {k : ℕ} → n ≡ naming_answer.Named g k → k ≤ 1
+  pub named_few : {g : Field} {k : ℕ} → n ≡ Ok (g, k) → k ≤ 1
   unfolding naming tested with_tested more start
   named_few i =
       let same = pass_same _ _ (passed_seq _ _ _ (passed_seq _ _ _ (sym (named_passes start i))).1).1 in

@@ -1,17 +1,16 @@
 -- What a ruling says.
+use Rattle.std.specs.Prelude.{Err, Ok}
+use Rattle.varint.specs.Answers.{Answer, outcome_of}
 use mathlib.Core.Path.{◌≡◌, sym}
 use Rattle.varint.specs.Outcome.{pass, fail, Rule}
 use Rattle.varint.specs.declared.Refusal.{Refusal}
 use Rattle.varint.proofs.Answers.{says}
-use Rattle.values.specs.Answers.{ruling_says}
-use Rattle.values.specs.declared.Ruling.{Ruling}
-use Rattle.values.specs.declared.Ruling.TheVariants as ruling
 
-module _ {o : Rule} {r : Ruling} (e : ruling_says r ≡ o) where
-  pub ruled_kept : r ≡ ruling.Kept → o ≡ pass tt
-  unfolding ruling_says
-  ruled_kept k = sym (says ruling_says e k)
+module _ {o : Rule} {r : Answer (Unit {0})} (e : outcome_of r ≡ o) where
+  pub ruled_kept : r ≡ (Ok tt) → o ≡ pass tt
+  unfolding outcome_of
+  ruled_kept k = sym (says outcome_of e k)
 
-  pub ruled_refused : {x : Refusal} → r ≡ ruling.Refused x → o ≡ fail x
-  unfolding ruling_says
-  ruled_refused k = sym (says ruling_says e k)
+  pub ruled_refused : {x : Refusal} → r ≡ Err x → o ≡ fail x
+  unfolding outcome_of
+  ruled_refused k = sym (says outcome_of e k)

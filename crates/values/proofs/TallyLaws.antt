@@ -1,4 +1,6 @@
 -- What a tally says, and a rule that tests names for each field of one number as a loop tests and counts them.
+use Rattle.std.specs.Prelude.{Err, None, Ok, Some}
+use Rattle.varint.specs.Answers.{Answer}
 use Prim.Native.Nat.{ℕ, ◌+◌, ◌-◌, ◌≤◌, ◌<◌, ◌^◌}
 use native.Mathlib.Omega.{arith}
 use mathlib.Core.Path.{◌≡◌, refl, sym, ap, ◌∙◌}
@@ -7,11 +9,9 @@ use lib.ListN.{length, length-append}
 use Rattle.varint.specs.Outcome.{pass, fail, each, Judged}
 use Rattle.varint.specs.Bytes.{Bytes}
 use Rattle.varint.specs.declared.Refusal.{Refusal}
-use Rattle.wire.specs.Answers.{sought_says, sought_in}
+use Rattle.wire.specs.Answers.{sought_says, sought_in, Sought}
 use Rattle.wire.specs.declared.Field.{Field}
 use Rattle.wire.specs.declared.Cursor.{Cursor}
-use Rattle.wire.specs.declared.Sought.{Sought}
-use Rattle.wire.specs.declared.Sought.TheVariants as sought
 use Rattle.varint.proofs.Answers.{says}
 use Rattle.varint.proofs.Passing.{passed_tells}
 use Rattle.varint.proofs.Tells.{Tells, Any}
@@ -20,8 +20,6 @@ use Rattle.rules.specs.Walk.{Walk}
 use Rattle.rules.specs.Count.{odds}
 use Rattle.rules.proofs.NamesFew.{odds_few}
 use Rattle.values.specs.Answers.{more, tally_says, adding, Addable}
-use Rattle.values.specs.declared.tallies.Tally.{Tally}
-use Rattle.values.specs.declared.tallies.Tally.TheVariants as tally
 
 pub more_none : (w : Walk) → more w 0 ≡ w
 unfolding more
@@ -33,23 +31,23 @@ more_more w a b =
     let e : w.odd + a + b ≡ w.odd + (a + b) = omega arith in
     ap (λ (o : ℕ). record { scope = w.scope; nodes = w.nodes; most = w.most; odd = o }) e
 
-module _ {t : Tally} (w : Walk) {o : Judged Walk} (e : tally_says w t ≡ o) where
-  pub tallied : {k : ℕ} → t ≡ tally.Counted k → o ≡ pass (more w k)
+module _ {t : Answer ℕ} (w : Walk) {o : Judged Walk} (e : tally_says w t ≡ o) where
+  pub tallied : {k : ℕ} → t ≡ Ok k → o ≡ pass (more w k)
   unfolding tally_says
   tallied k = sym (says (tally_says w) e k)
 
-  pub untallied : {x : Refusal} → t ≡ tally.Refused x → o ≡ fail x
+  pub untallied : {x : Refusal} → t ≡ Err x → o ≡ fail x
   unfolding tally_says
   untallied k = sym (says (tally_says w) e k)
 
   -- no more is counted than the rule counts
-  pub tally_most : (n : ℕ) → Tells (λ v. v.odd ≤ w.odd + n) Any o → {k : ℕ} → t ≡ tally.Counted k → k ≤ n
+  pub tally_most : (n : ℕ) → Tells (λ v. v.odd ≤ w.odd + n) Any o → {k : ℕ} → t ≡ Ok k → k ≤ n
   unfolding more
   tally_most n tells {k} i = let told = passed_tells _ Any o (more w k) tells (tallied i) in omega arith
 
   -- and no more than there are names, of a rule that counts the odd ones among these
   pub tally_few : (names : List Bytes) (R : Walk → Type 0) → ((v : Walk) → R v → v.odd ≡ w.odd + odds names) → Tells R Any o
-      → {k : ℕ} → t ≡ tally.Counted k → k ≤ length names
+      → {k : ℕ} → t ≡ Ok k → k ≤ length names
   unfolding more
   tally_few names R adds tells {k} i =
       let told = adds (more w k) (passed_tells R Any o (more w k) tells (tallied i)) in
@@ -73,11 +71,11 @@ tallying_start s number Q names step c = record {
 
 module _ {s : Bytes} {number end start : ℕ} {Q : Walk → Type 0} {names : Field → List Bytes} {step : Walk → Field → Judged Walk} {odd : ℕ} {c : Cursor}
     (q : Tallying s number end start Q names step odd c) {a : Sought} (read : sought_says a ≡ sought_in s number c.end c.at) where
-  pub tallying_done : a ≡ sought.Missing → (w : Walk) → Q w → tally_says w (tally.Counted odd) ≡ each step w (all_from s number end start)
+  pub tallying_done : a ≡ None → (w : Walk) → Q w → tally_says w (Ok odd) ≡ each step w (all_from s number end start)
   unfolding tally_says
   tallying_done e w h = sym (along_done (q.along w h) read e)
 
-  module _ {f : Field} {next : Cursor} (e : a ≡ sought.Found f next) where
+  module _ {f : Field} {next : Cursor} (e : a ≡ Some (f, next)) where
     left : flat_map names (all_from s number end c.at) ≡ flat_map names (f ∷ all_from s number end next.at)
     left = ap (flat_map names) (found_onward s number end q.ends read e).list
 
@@ -97,14 +95,14 @@ module _ {s : Bytes} {number end start : ℕ} {Q : Walk → Type 0} {names : Fie
       pub tallying_fits : odd + k ≤ length (flat_map names (all_from s number end start))
       tallying_fits = let l = few_left in omega arith
 
-    module _ {t : Tally} (still : (w : Walk) → Q w → Q (more w odd)) (answer : (w : Walk) → Q w → tally_says w t ≡ step w f) where
-      pub tallying_stops : {x : Refusal} → t ≡ tally.Refused x → (w : Walk) → Q w → tally_says w t ≡ each step w (all_from s number end start)
+    module _ {t : Answer ℕ} (still : (w : Walk) → Q w → Q (more w odd)) (answer : (w : Walk) → Q w → tally_says w t ≡ step w f) where
+      pub tallying_stops : {x : Refusal} → t ≡ Err x → (w : Walk) → Q w → tally_says w t ≡ each step w (all_from s number end start)
       unfolding tally_says
       tallying_stops k w h =
           let m = more w odd in
           ap (tally_says w) k ∙ sym (along_fails (q.along w h) read e (untallied m (answer m (still w h)) k))
 
-      pub tallying_goes : {k : ℕ} → t ≡ tally.Counted k → k ≤ length (names f) → Tallying s number end start Q names step (odd + k) next
+      pub tallying_goes : {k : ℕ} → t ≡ Ok k → k ≤ length (names f) → Tallying s number end start Q names step (odd + k) next
       tallying_goes {k} i h = record {
         along = λ w g. let m = more w odd in rw (more_more w odd k) at (along_goes (q.along w g) read e (tallied m (answer m (still w g)) i));
         ends = (found_onward s number end q.ends read e).ends;
@@ -113,12 +111,12 @@ module _ {s : Bytes} {number end start : ℕ} {Q : Walk → Type 0} {names : Fie
 
 -- ---- a tally and so many more
 
-pub adding_says : (w : Walk) (k : ℕ) (t : Tally) → tally_says w (adding k t) ≡ tally_says (more w k) t
+pub adding_says : (w : Walk) (k : ℕ) (t : Answer ℕ) → tally_says w (adding k t) ≡ tally_says (more w k) t
 unfolding adding tally_says
-adding_says w k (tally.Counted l) = ap pass (sym (more_more w k l))
-adding_says w k (tally.Refused r) = refl
+adding_says w k (Ok l) = ap pass (sym (more_more w k l))
+adding_says w k (Err r) = refl
 
-pub addable : (k : ℕ) (t : Tally) (a b : ℕ) → k ≤ a → ((l : ℕ) → t ≡ tally.Counted l → l ≤ b) → a + b < 2 ^ 64 → Addable k t
+pub addable : (k : ℕ) (t : Answer ℕ) (a b : ℕ) → k ≤ a → ((l : ℕ) → t ≡ Ok l → l ≤ b) → a + b < 2 ^ 64 → Addable k t
 unfolding Addable
-addable k (tally.Counted l) a b h g m = let n = g l refl in omega arith
-addable k (tally.Refused r) a b h g m = tt
+addable k (Ok l) a b h g m = let n = g l refl in omega arith
+addable k (Err r) a b h g m = tt

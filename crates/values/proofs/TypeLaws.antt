@@ -1,4 +1,6 @@
 -- The rules of types in the order of the code's tests.
+use Rattle.std.specs.Prelude.{Ok}
+use Rattle.varint.specs.Answers.{Answer}
 use Prim.Native.Nat.{ℕ, ◌≤◌, ◌<◌, ◌^◌}
 use native.Mathlib.Omega.{arith}
 use mathlib.Core.Path.{◌≡◌, refl, sym, ap, ◌∙◌}
@@ -24,8 +26,6 @@ use Rattle.rules.proofs.Rules.{Adds}
 use Rattle.rules.proofs.Counting.{grew_dim}
 use Rattle.rules.proofs.NamesFew.{from_few}
 use Rattle.values.specs.Answers.{more, tally_says}
-use Rattle.values.specs.declared.tallies.Tally.{Tally}
-use Rattle.values.specs.declared.tallies.Tally.TheVariants as tally
 use Rattle.values.proofs.TallyLaws.{more_none, tally_few}
 use Rattle.values.proofs.NameLaws.{empty_none, empty_some}
 
@@ -41,7 +41,7 @@ element_rest n h = simp (le-leb 1 n h)
 abbrev pub dim_names : (model : Bytes) → Field → List Bytes
 dim_names model d = bytes_of model Dimension-dim_param (message model d) ∷ []
 
-pub dim_few : (model : Bytes) (f : Field) {t : Tally} → ((w : Walk) → tally_says w t ≡ dim model w f) → {k : ℕ} → t ≡ tally.Counted k → k ≤ length (dim_names model f)
+pub dim_few : (model : Bytes) (f : Field) {t : Answer ℕ} → ((w : Walk) → tally_says w t ≡ dim model w f) → {k : ℕ} → t ≡ Ok k → k ≤ length (dim_names model f)
 dim_few model f e i = tally_few start (e start) (dim_names model f) (Adds start (odds (dim_names model f))) (λ v a. a.3) (grew_dim model start f) i
 
 -- as many as there are fields, so fewer than 64 bits can count

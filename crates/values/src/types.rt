@@ -8,13 +8,13 @@ ghost use Rattle.rules.specs.Walk.{Context, Walk, in_main};
 ghost use Rattle.rules.specs.Types.{is_element, dim, tensor_type, declared_type};
 ghost use Rattle.values.specs.Answers.{tally_says};
 
-use crate::Ruling;
 use crate::numbers::{
     DIMENSION_DIM_PARAM, DIMENSION_DIM_VALUE, SHAPE_DIM, TENSOR_TYPE_ELEM_TYPE, TENSOR_TYPE_SHAPE,
     TYPE_TENSOR, VALUE_INFO_TYPE,
 };
-use crate::tallies::{Tally, tested, uncounted};
-use wire::{Field, Sought};
+use crate::tallies::tested;
+use varint::{Refusal, refused};
+use wire::Field;
 
 // "A signed value is the 64-bit two's complement reading."
 const SIGN_BIT: u64 = 0x8000_0000_0000_0000;
@@ -29,75 +29,72 @@ pub fn is_element(code: u64) -> bool
 }
 
 // "21 is given exactly to bytes that are not well-formed UTF-8 (RFC 3629) and to an empty dim_param"
-fn dim(model: &[u8], d: Field) -> Tally
+fn dim(model: &[u8], d: Field) -> Result<u64, Refusal>
     ensures { (w : Walk) → tally_says w result ≡ dim model.now w d }
 {
     if SIGN_BIT <= d.number_of(model, DIMENSION_DIM_VALUE) {
-        return uncounted(Ruling::NEGATIVE_DIM, d.place_of(model, DIMENSION_DIM_VALUE));
+        return refused(
+            Refusal::NEGATIVE_DIM,
+            d.place_of(model, DIMENSION_DIM_VALUE),
+        );
     }
-    let Sought::Found(param, _) = d.first_of(model, DIMENSION_DIM_PARAM) else {
-        return Tally::Counted(0);
+    let Some((param, _)) = d.first_of(model, DIMENSION_DIM_PARAM) else {
+        return Ok(0);
     };
     let text = param.text(model);
     if text.len() == 0 {
-        return uncounted(Ruling::NOT_UTF8, param.place);
+        return refused(Refusal::NOT_UTF8, param.place);
     }
     tested(text, param.place)
 }
 
-fn dims(model: &[u8], shape: Field) -> Tally
+fn dims(model: &[u8], shape: Field) -> Result<u64, Refusal>
     ensures { (w : Walk) → tally_says w result ≡ each (dim model.now) w (all_of Shape-dim (message model.now shape)) }
 {
     let mut c = shape.contents();
     let mut odd = 0;
-    loop {
-        let sought = c.next_of(model, SHAPE_DIM);
-        let Sought::Found(d, next) = sought else {
-            return Tally::Counted(odd);
-        };
-        let tally = dim(model, d);
-        let Tally::Counted(more) = tally else {
-            return tally;
-        };
+    while let Some((d, next)) = c.next_of(model, SHAPE_DIM) {
+        let more = dim(model, d)?;
         odd += more;
         c = next;
     }
+    Ok(odd)
 }
 
-fn tensor_type(model: &[u8], t: Field) -> Tally
+fn tensor_type(model: &[u8], t: Field) -> Result<u64, Refusal>
     ensures { (w : Walk) → tally_says w result ≡ tensor_type model.now (message model.now t) w }
 {
     if !is_element(t.number_of(model, TENSOR_TYPE_ELEM_TYPE)) {
-        return uncounted(
-            Ruling::BAD_ELEM_TYPE,
+        return refused(
+            Refusal::BAD_ELEM_TYPE,
             t.place_of(model, TENSOR_TYPE_ELEM_TYPE),
         );
     }
     match t.first_of(model, TENSOR_TYPE_SHAPE) {
-        Sought::Missing => uncounted(Ruling::NO_SHAPE, t.place),
-        Sought::Found(shape, _) => dims(model, shape),
+        None => refused(Refusal::NO_SHAPE, t.place),
+        Some((shape, _)) => dims(model, shape),
     }
 }
 
 // "24 the type's, if there is one": the type that a ValueInfo declares, which must be a tensor's.
-fn declared_type(model: &[u8], v: Field) -> Tally
+fn declared_type(model: &[u8], v: Field) -> Result<u64, Refusal>
     ensures { (w : Walk) → tally_says w result ≡ declared_type model.now (message model.now v) w }
 {
-    let Sought::Found(declared, _) = v.first_of(model, VALUE_INFO_TYPE) else {
-        return uncounted(Ruling::NO_TENSOR_TYPE, v.place);
+    let Some((declared, _)) = v.first_of(model, VALUE_INFO_TYPE) else {
+        return refused(Refusal::NO_TENSOR_TYPE, v.place);
     };
     match declared.first_of(model, TYPE_TENSOR) {
-        Sought::Missing => uncounted(Ruling::NO_TENSOR_TYPE, declared.place),
-        Sought::Found(tensor, _) => tensor_type(model, tensor),
+        None => refused(Refusal::NO_TENSOR_TYPE, declared.place),
+        Some((tensor, _)) => tensor_type(model, tensor),
     }
 }
 
 // "in the main graph then its type"
-pub fn main_type(model: &[u8], main: bool, v: Field) -> Tally
+pub fn main_type(model: &[u8], main: bool, v: Field) -> Result<u64, Refusal>
     ensures { (k : Context) (w : Walk) → k.main ≡ main → tally_says w result ≡ in_main k (declared_type model.now (message model.now v)) w }
 {
     if main {
         return declared_type(model, v);
     }
-    Tally::Counted(0)
+    Ok(0)
 }

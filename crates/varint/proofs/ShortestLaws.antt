@@ -1,4 +1,6 @@
 -- A varint that must have its shortest form: each case, with what a reader knows there.
+use Rattle.std.specs.Prelude.{Err, Ok}
+use Rattle.varint.specs.Answers.{Answer, outcome_of}
 use Prim.Native.Nat.{ℕ, suc, ◌+◌, ◌-◌, ◌*◌, ◌%◌, ◌≤◌, ◌<◌}
 use native.Mathlib.Omega.{arith}
 use mathlib.Core.Path.{◌≡◌, refl, sym, ap, ◌∙◌}
@@ -9,11 +11,8 @@ use borrow.Author.Tests.{ne_eqb}
 use Rattle.varint.specs.Outcome.{pass, ◌>>=◌, ◌>>◌, Judged, refused, refuse◌at:◌when:◌}
 use Rattle.varint.specs.Bytes.{Bytes, byte}
 use Rattle.varint.specs.Varint.{varint, shortest_varint}
-use Rattle.varint.specs.Answers.{varint_says}
 use Rattle.varint.specs.declared.Refusal.{Refusal}
 use Rattle.varint.specs.declared.Varint.{Varint}
-use Rattle.varint.specs.declared.VarintAnswer.{VarintAnswer}
-use Rattle.varint.specs.declared.VarintAnswer.TheVariants as answer
 use Rattle.varint.proofs.Answers.{says}
 use Rattle.varint.proofs.Passing.{passed_bind, passed_seq, passed_rule, pass_same}
 use Rattle.varint.proofs.VarintLaws.{one_byte, varint_each}
@@ -56,19 +55,19 @@ module _ (s : Bytes) (place end pos : ℕ) where
       kept false t = absurd t
 
   -- as the reader answers
-  module _ {r : VarintAnswer} (read : varint_says r ≡ varint s place end pos) where
-    pub shortest_refused : {q : Refusal} → r ≡ answer.Refused q → varint_says r ≡ shortest_varint s place end pos
-    unfolding ruled varint_says ◌>>=◌
-    shortest_refused e = ap varint_says e ∙ ruled_varint (says varint_says read e)
+  module _ {r : Answer Varint} (read : outcome_of r ≡ varint s place end pos) where
+    pub shortest_refused : {q : Refusal} → r ≡ Err q → outcome_of r ≡ shortest_varint s place end pos
+    unfolding ruled outcome_of ◌>>=◌
+    shortest_refused e = ap outcome_of e ∙ ruled_varint (says outcome_of read e)
 
-    module _ {v : Varint} (e : r ≡ answer.Read v) where
+    module _ {v : Varint} (e : r ≡ Ok v) where
       pub shortest_padded : v.shortest ≡ false → refused 9 place ≡ shortest_varint s place end pos
-      unfolding varint_says
-      shortest_padded k = sym (ruled_padded place v k) ∙ ruled_varint (says varint_says read e)
+      unfolding outcome_of
+      shortest_padded k = sym (ruled_padded place v k) ∙ ruled_varint (says outcome_of read e)
 
       pub shortest_read : v.shortest ≡ true → pass v ≡ shortest_varint s place end pos
-      unfolding varint_says
-      shortest_read k = shortest_of (says varint_says read e) k
+      unfolding outcome_of
+      shortest_read k = shortest_of (says outcome_of read e) k
 
 -- ---- "Padded: more than one byte and the last is 0."
 

@@ -213,6 +213,10 @@ module _ {s : Bytes} {place end from stop pos value scale : ℕ} (q : Going s pl
       reads = turn_more q.reads b more within e k hi;
     }
 
+  -- where the loop ends
+  pub go_stop : stop ≤ pos → Going s place end from stop stop value scale
+  go_stop h = subst (λ (x : ℕ). Going s place end from stop x value scale) (omega (arith, h, q.inside)) q
+
   pub go_past : end ≤ pos → refused 1 place ≡ varint s place end from
   go_past k = turn_past q.reads k
 

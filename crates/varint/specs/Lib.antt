@@ -1,7 +1,6 @@
 pub mod Outcome
 pub mod Lists
 pub mod Bytes
-pub mod Words
 pub mod Varint
 pub mod Answers
 pub mod Encoding

@@ -1,75 +1,58 @@
 // "A varint has at most ten bytes, lowest seven bits first; the tenth is 0 or 1."
+ghost use Rattle.varint.specs.Answers.{outcome_of};
 ghost use Rattle.std.specs.Prelude.{◌≡◌, ◌+◌, ◌<◌, min};
-ghost use Rattle.varint.specs.Outcome.{refused};
 ghost use Rattle.varint.specs.Bytes.{byte};
 ghost use Rattle.varint.specs.Varint.{varint, shortest_varint};
-ghost use Rattle.varint.specs.Answers.{varint_says};
 
-use crate::{Refusal, Varint, VarintAnswer};
+use crate::{Refusal, Varint, refused};
 
 // The byte at a position, 0 past the end.
-fn byte_at(s: &[u8], pos: usize) -> u64
+#[tactic(auto, unfolding(crate::specs::Bytes::byte))]
+pub fn byte_at(s: &[u8], pos: usize) -> u64
     ensures { (result ≡ byte s.now pos) × (result < 256) }
 {
-    if pos < s.len() {
-        return s[pos] as u64;
+    match s.get(pos) {
+        Some(b) => u64::from(*b),
+        None => 0,
     }
-    0
 }
 
 pub fn wide(b: u8) -> u64
     ensures { (result ≡ b) × (result < 256) }
 {
-    b as u64
+    u64::from(b)
 }
 
 // Where a varint's tenth byte stands, or its message's end before that.
 fn tenth_or_end(end: usize, from: usize) -> usize
     ensures { result ≡ min end (from + 9) }
 {
-    if end < from {
-        return end;
-    }
-    if end - from < 9 {
-        return end;
-    }
-    from + 9
-}
-
-fn refused(number: u8, place: usize) -> VarintAnswer
-    ensures { varint_says result ≡ refused number place }
-{
-    VarintAnswer::Refused(Refusal {
-        number: number,
-        place: place,
-        first: 0,
-    })
+    from.saturating_add(9).min(end)
 }
 
 // The varint at `from`, of the field whose tag is at `place`, in a message that ends at `end`. Most have one byte: those take the
 // short way. The loop stops at a place, so that the compiler writes it out once and puts it where it is called.
-pub fn read_varint(s: &[u8], place: usize, end: usize, from: usize) -> VarintAnswer
-    ensures { varint_says result ≡ varint s.now place end from }
+pub fn read_varint(s: &[u8], place: usize, end: usize, from: usize) -> Result<Varint, Refusal>
+    ensures { outcome_of result ≡ varint s.now place end from }
 {
     if end <= from {
         return refused(Refusal::PAST_END, place);
     }
     let first = byte_at(s, from);
     if first < 128 {
-        return VarintAnswer::Read(Varint {
+        return Ok(Varint {
             value: first,
             next: from + 1,
             shortest: true,
         });
     }
     let stop = tenth_or_end(end, from);
-    let mut pos = from;
     let mut value: u64 = 0;
     let mut scale: u64 = 1;
-    while pos < stop {
+    for pos in from..stop {
         let b = byte_at(s, pos);
         if b < 128 {
-            return VarintAnswer::Read(Varint {
+            return Ok(Varint {
                 value: value + scale * b,
                 next: pos + 1,
                 shortest: 0 < b,
@@ -77,32 +60,28 @@ pub fn read_varint(s: &[u8], place: usize, end: usize, from: usize) -> VarintAns
         }
         value += scale * (b - 128);
         scale *= 128;
-        pos += 1;
     }
-    if end <= pos {
+    if end <= stop {
         return refused(Refusal::PAST_END, place);
     }
-    let tenth = byte_at(s, pos);
+    let tenth = byte_at(s, stop);
     if 1 < tenth {
         return refused(Refusal::TENTH_BYTE, place);
     }
-    VarintAnswer::Read(Varint {
+    Ok(Varint {
         value: value + scale * tenth,
-        next: pos + 1,
+        next: stop + 1,
         shortest: 0 < tenth,
     })
 }
 
 // "every caller refuses a padded tag, value or length with 9, after 1 and 2 for that varint"
-pub fn read_shortest(s: &[u8], place: usize, end: usize, from: usize) -> VarintAnswer
-    ensures { varint_says result ≡ shortest_varint s.now place end from }
+pub fn read_shortest(s: &[u8], place: usize, end: usize, from: usize) -> Result<Varint, Refusal>
+    ensures { outcome_of result ≡ shortest_varint s.now place end from }
 {
-    let read = read_varint(s, place, end, from);
-    let VarintAnswer::Read(v) = read else {
-        return read;
-    };
+    let v = read_varint(s, place, end, from)?;
     if v.shortest {
-        return VarintAnswer::Read(v);
+        return Ok(v);
     }
     refused(Refusal::PADDED, place)
 }

@@ -5,8 +5,8 @@ ghost use Rattle.std.specs.Prelude.{◌≡◌};
 ghost use Rattle.schema.specs.FirstWalk.{first_walk};
 ghost use Rattle.walk_c.specs.Exports.{answered, varint_count};
 
-use schema::{WalkAnswer, first_walk};
-use varint::{VarintAnswer, read_varint};
+use schema::first_walk;
+use varint::read_varint;
 
 // The number and the place of document 01, both 0 where the walk passes.
 #[repr(C)]
@@ -22,11 +22,11 @@ pub extern "C" fn walk_c_first_walk(model: &[u8]) -> Answer
     ensures { result ≡ answered (first_walk model.now) }
 {
     match first_walk(model) {
-        WalkAnswer::Sound => Answer {
+        Ok(()) => Answer {
             number: 0,
             place: 0,
         },
-        WalkAnswer::Refused(r) => Answer {
+        Err(r) => Answer {
             number: r.number as u64,
             place: r.place as u64,
         },
@@ -38,18 +38,11 @@ pub extern "C" fn walk_c_first_walk(model: &[u8]) -> Answer
 pub extern "C" fn walk_c_varints(bytes: &[u8]) -> u64
     ensures { result ≡ varint_count bytes.now }
 {
-    let end = bytes.len();
     let mut at: usize = 0;
     let mut count: u64 = 0;
-    loop {
-        if end <= at {
-            return count;
-        }
-        let read = read_varint(bytes, at, end, at);
-        let VarintAnswer::Read(v) = read else {
-            return count;
-        };
+    while let Ok(v) = read_varint(bytes, at, bytes.len(), at) {
         at = v.next;
         count += 1;
     }
+    count
 }

@@ -1,4 +1,5 @@
 -- A loop over the fields with one number: what is left of `each` over them, from a cursor on.
+use Rattle.std.specs.Prelude.{None, Some}
 use Prim.Native.Nat.{ℕ, zero, suc, ◌+◌, ◌-◌, ◌≤◌, ◌<◌}
 use native.Mathlib.Omega.{arith}
 use mathlib.Core.Path.{◌≡◌, refl, sym, ap, ◌∙◌}
@@ -11,12 +12,10 @@ use Rattle.varint.specs.Lists.{first, keep}
 use Rattle.varint.specs.Bytes.{Bytes}
 use Rattle.wire.specs.Wire.{field, fields_from, fields}
 use Rattle.wire.specs.Message.{all_of, message}
-use Rattle.wire.specs.Answers.{sought_says, contents_of, after, found_in, sought_in}
+use Rattle.wire.specs.Answers.{sought_says, contents_of, after, found_in, sought_in, Sought}
 use Rattle.varint.specs.declared.Refusal.{Refusal}
 use Rattle.wire.specs.declared.Field.{Field}
 use Rattle.wire.specs.declared.Cursor.{Cursor}
-use Rattle.wire.specs.declared.Sought.{Sought}
-use Rattle.wire.specs.declared.Sought.TheVariants as sought
 use Rattle.varint.proofs.Tells.{Tells}
 use Rattle.wire.proofs.Reading.{Fits, AtTag, field_tells, field_placed}
 use Rattle.wire.proofs.Fields.{fields_bound}
@@ -148,7 +147,7 @@ module _ (s : Bytes) (number end : ℕ) where
 
   -- what a search found, from a cursor on
   module _ {c : Cursor} (ends : c.end ≡ end) {r : Sought} (read : sought_says r ≡ sought_in s number c.end c.at) {f : Field} {next : Cursor}
-      (e : r ≡ sought.Found f next) where
+      (e : r ≡ Some (f, next)) where
     pub found_onward : Onward c.at f next
     unfolding sought_says
     found_onward = all_some c.at (says sought_says (rw ends at read) e)
@@ -171,11 +170,11 @@ along_contents s number step t m e = rw e refl
 
 module _ {S : Type 0} {s : Bytes} {number end : ℕ} {step : S → Field → Judged S} {o : Judged S} {t : S} {c : Cursor} (q : Along s number end step o t c) where
   module _ {r : Sought} (read : sought_says r ≡ sought_in s number c.end c.at) where
-    pub along_done : r ≡ sought.Missing → o ≡ pass t
+    pub along_done : r ≡ None → o ≡ pass t
     unfolding sought_says each
     along_done e = sym q.rest ∙ ap (each step t) (all_none s number end c.at (says sought_says (rw q.ends at read) e))
 
-    module _ {f : Field} {next : Cursor} (e : r ≡ sought.Found f next) where
+    module _ {f : Field} {next : Cursor} (e : r ≡ Some (f, next)) where
       went : Onward s number end c.at f next
       went = found_onward s number end q.ends read e
 

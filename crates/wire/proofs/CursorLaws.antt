@@ -1,29 +1,23 @@
 -- Each case of a tag, a value and a field, with what a reader knows there.
-use Prim.Native.Nat.{ℕ, ◌+◌, ◌-◌, ◌/◌, ◌%◌, ◌^◌, ◌<◌, ◌≤◌}
+use Rattle.std.specs.Prelude.{Err, Ok}
+use Rattle.varint.specs.Answers.{Answer, outcome_of}
+use Prim.Native.Nat.{ℕ, ◌+◌, ◌-◌, ◌/◌, ◌%◌, ◌<◌, ◌≤◌}
 use native.Mathlib.Omega.{arith}
 use mathlib.Core.Path.{◌≡◌, refl, sym, ap, ◌∙◌}
-use mathlib.Core.Bool.{Bool, true, false, not, ◌||◌}
+use mathlib.Core.Bool.{true, false}
 use mathlib.Core.Option.{none, some}
-use lib.Dec.{eqb}
-use borrow.Author.Tests.{lt-ltb, le-ltb, eq-eqb, ne_eqb, lt-leb}
+use borrow.Author.Tests.{lt-ltb, le-ltb, eq-eqb, ne_eqb}
 use Rattle.varint.specs.Outcome.{pass, fail, ◌>>=◌, ◌>>◌, Judged, refused, refuse◌at:◌when:◌}
-use Rattle.varint.specs.Lists.{first, keep, contains}
+use Rattle.varint.specs.Lists.{first, keep}
 use Rattle.varint.specs.Bytes.{Bytes}
 use Rattle.varint.specs.Varint.{shortest_varint}
 use Rattle.wire.specs.Wire.{bad_tag, tag, sized, value, field}
-use Rattle.varint.specs.Answers.{varint_says}
-use Rattle.wire.specs.Answers.{tag_says, field_says, after, with_cursor, found_in, sought_in}
+use Rattle.wire.specs.Answers.{after, with_cursor, found_in, sought_in}
 use Rattle.varint.specs.declared.Refusal.{Refusal}
 use Rattle.varint.specs.declared.Varint.{Varint}
 use Rattle.wire.specs.declared.Tag.{Tag}
 use Rattle.wire.specs.declared.Field.{Field}
 use Rattle.wire.specs.declared.Cursor.{Cursor}
-use Rattle.varint.specs.declared.VarintAnswer.{VarintAnswer}
-use Rattle.varint.specs.declared.VarintAnswer.TheVariants as varint_answer
-use Rattle.wire.specs.declared.TagAnswer.{TagAnswer}
-use Rattle.wire.specs.declared.TagAnswer.TheVariants as tag_answer
-use Rattle.wire.specs.declared.FieldAnswer.{FieldAnswer}
-use Rattle.wire.specs.declared.FieldAnswer.TheVariants as field_answer
 use Rattle.varint.proofs.Answers.{says}
 use Rattle.varint.proofs.Passing.{fail_no_pass, pass_same}
 use Rattle.wire.proofs.Reading.{Fits, field_tells}
@@ -31,27 +25,19 @@ use Rattle.wire.proofs.Fields.{fields_done, fields_step, fields_stop}
 
 -- ---- a tag
 
-pub bad_other : (t : ℕ) → t < 2 ^ 32 → (t / 8 ≡ 0 → ⊥) → (t % 8 ≡ 0 → ⊥) → (t % 8 ≡ 1 → ⊥) → (t % 8 ≡ 2 → ⊥) → not (eqb (t % 8) 5) ≡ bad_tag t
-unfolding bad_tag contains
-bad_other t a b c d e = simp (lt-leb _ _ a, ne_eqb _ _ b, ne_eqb _ _ c, ne_eqb _ _ d, ne_eqb _ _ e) (go (eqb (t % 8) 5))
-  where
-    go : (x : Bool) → not x ≡ not (x || false)
-    go true = refl
-    go false = refl
+module _ (s : Bytes) (end pos : ℕ) {r : Answer Varint} (read : outcome_of r ≡ shortest_varint s pos end pos) where
+  pub tag_refused : {q : Refusal} → r ≡ Err q → fail q ≡ tag s end pos
+  unfolding tag outcome_of ◌>>=◌
+  tag_refused e = rw (← says outcome_of read e)
 
-module _ (s : Bytes) (end pos : ℕ) {r : VarintAnswer} (read : varint_says r ≡ shortest_varint s pos end pos) where
-  pub tag_refused : {q : Refusal} → r ≡ varint_answer.Refused q → fail q ≡ tag s end pos
-  unfolding tag varint_says ◌>>=◌
-  tag_refused e = rw (← says varint_says read e)
+  pub tag_bad : {v : Varint} → r ≡ Ok v → bad_tag v.value ≡ true → refused 3 pos ≡ tag s end pos
+  unfolding tag outcome_of ◌>>=◌ ◌>>◌ refuse◌at:◌when:◌
+  tag_bad e b = rw (← says outcome_of read e, b)
 
-  pub tag_bad : {v : Varint} → r ≡ varint_answer.Read v → bad_tag v.value ≡ true → refused 3 pos ≡ tag s end pos
-  unfolding tag varint_says ◌>>=◌ ◌>>◌ refuse◌at:◌when:◌
-  tag_bad e b = rw (← says varint_says read e, b)
-
-  pub tag_read : {v : Varint} → r ≡ varint_answer.Read v → bad_tag v.value ≡ false
+  pub tag_read : {v : Varint} → r ≡ Ok v → bad_tag v.value ≡ false
       → pass (record { place = pos; number = v.value / 8; wire = v.value % 8; next = v.next }) ≡ tag s end pos
-  unfolding tag varint_says ◌>>=◌ ◌>>◌ refuse◌at:◌when:◌
-  tag_read e b = rw (← says varint_says read e, b)
+  unfolding tag outcome_of ◌>>=◌ ◌>>◌ refuse◌at:◌when:◌
+  tag_read e b = rw (← says outcome_of read e, b)
 
 -- ---- a value or a length
 
@@ -67,22 +53,22 @@ module _ (t : Tag) (end v start size : ℕ) where
   sized_in h = simp (le-ltb _ _ h)
 
 module _ (s : Bytes) (t : Tag) (end : ℕ) where
-  module _ {r : VarintAnswer} (read : varint_says r ≡ shortest_varint s t.place end t.next) where
-    pub number_refused : {q : Refusal} → t.wire ≡ 0 → r ≡ varint_answer.Refused q → fail q ≡ with_cursor end (value s t end)
-    unfolding value with_cursor varint_says ◌>>=◌
-    number_refused w e = rw w (rw (← says varint_says read e))
+  module _ {r : Answer Varint} (read : outcome_of r ≡ shortest_varint s t.place end t.next) where
+    pub number_refused : {q : Refusal} → t.wire ≡ 0 → r ≡ Err q → fail q ≡ with_cursor end (value s t end)
+    unfolding value with_cursor outcome_of ◌>>=◌
+    number_refused w e = rw w (rw (← says outcome_of read e))
 
-    pub number_read : {v : Varint} → t.wire ≡ 0 → r ≡ varint_answer.Read v → with_cursor end (sized t end v.value v.next 0) ≡ with_cursor end (value s t end)
-    unfolding value varint_says ◌>>=◌
-    number_read w e = rw w (rw (← says varint_says read e))
+    pub number_read : {v : Varint} → t.wire ≡ 0 → r ≡ Ok v → with_cursor end (sized t end v.value v.next 0) ≡ with_cursor end (value s t end)
+    unfolding value outcome_of ◌>>=◌
+    number_read w e = rw w (rw (← says outcome_of read e))
 
-    pub length_refused : {q : Refusal} → t.wire ≡ 2 → r ≡ varint_answer.Refused q → fail q ≡ with_cursor end (value s t end)
-    unfolding value with_cursor varint_says ◌>>=◌
-    length_refused w e = rw w (rw (← says varint_says read e))
+    pub length_refused : {q : Refusal} → t.wire ≡ 2 → r ≡ Err q → fail q ≡ with_cursor end (value s t end)
+    unfolding value with_cursor outcome_of ◌>>=◌
+    length_refused w e = rw w (rw (← says outcome_of read e))
 
-    pub length_read : {v : Varint} → t.wire ≡ 2 → r ≡ varint_answer.Read v → with_cursor end (sized t end 0 v.next v.value) ≡ with_cursor end (value s t end)
-    unfolding value varint_says ◌>>=◌
-    length_read w e = rw w (rw (← says varint_says read e))
+    pub length_read : {v : Varint} → t.wire ≡ 2 → r ≡ Ok v → with_cursor end (sized t end 0 v.next v.value) ≡ with_cursor end (value s t end)
+    unfolding value outcome_of ◌>>=◌
+    length_read w e = rw w (rw (← says outcome_of read e))
 
   pub eight_read : t.wire ≡ 1 → with_cursor end (sized t end 0 t.next 8) ≡ with_cursor end (value s t end)
   unfolding value
@@ -94,14 +80,14 @@ module _ (s : Bytes) (t : Tag) (end : ℕ) where
 
 -- ---- a field
 
-module _ (s : Bytes) (end pos : ℕ) {r : TagAnswer} (read : tag_says r ≡ tag s end pos) where
-  pub field_refused : {q : Refusal} → r ≡ tag_answer.Refused q → fail q ≡ with_cursor end (field s end pos)
-  unfolding field with_cursor tag_says ◌>>=◌
-  field_refused e = rw (← says tag_says read e)
+module _ (s : Bytes) (end pos : ℕ) {r : Answer Tag} (read : outcome_of r ≡ tag s end pos) where
+  pub field_refused : {q : Refusal} → r ≡ Err q → fail q ≡ with_cursor end (field s end pos)
+  unfolding field with_cursor outcome_of ◌>>=◌
+  field_refused e = rw (← says outcome_of read e)
 
-  pub field_read : {t : Tag} → r ≡ tag_answer.Read t → with_cursor end (value s t end) ≡ with_cursor end (field s end pos)
-  unfolding field tag_says ◌>>=◌
-  field_read e = rw (← says tag_says read e)
+  pub field_read : {t : Tag} → r ≡ Ok t → with_cursor end (value s t end) ≡ with_cursor end (field s end pos)
+  unfolding field outcome_of ◌>>=◌
+  field_read e = rw (← says outcome_of read e)
 
 -- what an answer says of the field itself
 pub with_cursor_read : (end : ℕ) {f : Field} {next : Cursor} (o : Judged Field) → pass (f, next) ≡ with_cursor end o → (o ≡ pass f) × (next ≡ record { at = f.next; end = end })
@@ -118,14 +104,14 @@ with_cursor_refused end {r} (pass g) e = absurd (fail_no_pass r (after end g) e)
 with_cursor_refused end {r} (fail q) e = let k : r ≡ q = cc in ap fail (sym k)
 
 -- an answer that was read at a cursor, as a field and its cursor or as a refusal
-module _ (s : Bytes) (c : Cursor) {r : FieldAnswer} (read : field_says r ≡ with_cursor c.end (field s c.end c.at)) where
-  pub answer_read : {f : Field} {next : Cursor} → r ≡ field_answer.Read f next → (field s c.end c.at ≡ pass f) × (next ≡ record { at = f.next; end = c.end })
-  unfolding field_says
-  answer_read e = with_cursor_read c.end (field s c.end c.at) (says field_says read e)
+module _ (s : Bytes) (c : Cursor) {r : Answer (Field × Cursor)} (read : outcome_of r ≡ with_cursor c.end (field s c.end c.at)) where
+  pub answer_read : {f : Field} {next : Cursor} → r ≡ Ok (f, next) → (field s c.end c.at ≡ pass f) × (next ≡ record { at = f.next; end = c.end })
+  unfolding outcome_of
+  answer_read e = with_cursor_read c.end (field s c.end c.at) (says outcome_of read e)
 
-  pub answer_refused : {q : Refusal} → r ≡ field_answer.Refused q → field s c.end c.at ≡ fail q
-  unfolding field_says
-  answer_refused e = with_cursor_refused c.end (field s c.end c.at) (says field_says read e)
+  pub answer_refused : {q : Refusal} → r ≡ Err q → field s c.end c.at ≡ fail q
+  unfolding outcome_of
+  answer_refused e = with_cursor_refused c.end (field s c.end c.at) (says outcome_of read e)
 
 -- ---- looking for a field
 
@@ -164,15 +150,15 @@ module _ {s : Bytes} {number end from : ℕ} {c : Cursor} (q : Seeking s number 
   pub seek_done : end ≤ c.at → none ≡ sought_in s number end from
   seek_done h = sym (sought_done s number end c.at h) ∙ q.rest
 
-  module _ (h : c.at < end) {r : FieldAnswer} (read : field_says r ≡ with_cursor c.end (field s c.end c.at)) where
-    pub seek_stop : {x : Refusal} → r ≡ field_answer.Refused x → none ≡ sought_in s number end from
-    unfolding field_says
-    seek_stop {x} e = sym (sought_stop s number end c.at h x (with_cursor_refused end (field s end c.at) (says field_says (rw q.ends at read) e))) ∙ q.rest
+  module _ (h : c.at < end) {r : Answer (Field × Cursor)} (read : outcome_of r ≡ with_cursor c.end (field s c.end c.at)) where
+    pub seek_stop : {x : Refusal} → r ≡ Err x → none ≡ sought_in s number end from
+    unfolding outcome_of
+    seek_stop {x} e = sym (sought_stop s number end c.at h x (with_cursor_refused end (field s end c.at) (says outcome_of (rw q.ends at read) e))) ∙ q.rest
 
-    module _ {f : Field} {next : Cursor} (e : r ≡ field_answer.Read f next) where
+    module _ {f : Field} {next : Cursor} (e : r ≡ Ok (f, next)) where
       went : (field s end c.at ≡ pass f) × (next ≡ record { at = f.next; end = end })
-      unfolding field_says
-      went = with_cursor_read end (field s end c.at) (says field_says (rw q.ends at read) e)
+      unfolding outcome_of
+      went = with_cursor_read end (field s end c.at) (says outcome_of (rw q.ends at read) e)
 
       pub seek_found : number ≡ f.number → some (f, next) ≡ sought_in s number end from
       unfolding after

@@ -1,17 +1,17 @@
 -- The fields of a message by number, as code looks for them.
+use Rattle.std.specs.Prelude.{None, Some, is_some}
 use Prim.Native.Nat.{ℕ}
 use mathlib.Core.Path.{◌≡◌, refl, ap, ◌∙◌}
 use mathlib.Core.List.{[]}
 use mathlib.Core.Option.{Option, none, some}
 use Rattle.varint.specs.Outcome.{pass}
 use Rattle.varint.specs.Bytes.{Bytes}
+use Rattle.varint.specs.Lists.{present}
 use Rattle.wire.specs.Wire.{field}
 use Rattle.wire.specs.Message.{all_of, first_of, number_of, place_of, text, bytes_of, message}
-use Rattle.wire.specs.Answers.{sought_says, value_in, contents_of, after, found_in, sought_in}
+use Rattle.wire.specs.Answers.{sought_says, value_in, contents_of, after, found_in, sought_in, Sought}
 use Rattle.wire.specs.declared.Field.{Field}
 use Rattle.wire.specs.declared.Cursor.{Cursor}
-use Rattle.wire.specs.declared.Sought.{Sought}
-use Rattle.wire.specs.declared.Sought.TheVariants as sought
 use Rattle.varint.proofs.Answers.{says}
 use Rattle.wire.proofs.Along.{Onward, all_some}
 
@@ -27,8 +27,8 @@ without_cursor end (some g) = refl
 
 value_without : (r : Sought) → value_in r ≡ elim (without (sought_says r)) [ none ↦ 0 | some g ↦ g.value ]
 unfolding value_in sought_says without
-value_without (sought.Found g c) = refl
-value_without sought.Missing = refl
+value_without (Some (g, c)) = refl
+value_without None = refl
 
 module _ (s : Bytes) (number : ℕ) (f : Field) where
   pub found_first : (r : Sought) {c : Cursor} → c ≡ contents_of f → sought_says r ≡ sought_in s number c.end c.at
@@ -44,7 +44,16 @@ module _ (s : Bytes) (number : ℕ) (f : Field) where
     unfolding number_of
     number_in = value_without r ∙ ap (λ (o : Option Field). elim o [ none ↦ 0 | some g ↦ g.value ]) (told refl)
 
-    module _ (k : r ≡ sought.Missing) where
+    -- whether it is there
+    pub some_present : is_some r ≡ present (first_of number (message s f))
+    unfolding present sought_says without
+    some_present = go r refl
+      where
+        go : (a : Sought) → r ≡ a → is_some a ≡ present (first_of number (message s f))
+        go (Some (g, c)) k = ap present (told k)
+        go None k = ap present (told k)
+
+    module _ (k : r ≡ None) where
       pub missing : none ≡ first_of number (message s f)
       unfolding sought_says without
       missing = told k
@@ -57,7 +66,7 @@ module _ (s : Bytes) (number : ℕ) (f : Field) where
       unfolding bytes_of
       bytes_missing = ap (λ (o : Option Field). elim o [ none ↦ [] | some g ↦ text s g ]) missing
 
-    module _ {g : Field} {c : Cursor} (k : r ≡ sought.Found g c) where
+    module _ {g : Field} {c : Cursor} (k : r ≡ Some (g, c)) where
       pub found : some g ≡ first_of number (message s f)
       unfolding sought_says without
       found = told k

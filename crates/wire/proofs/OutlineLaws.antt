@@ -1,4 +1,6 @@
 -- One reading of a message: where the fields of a number begin, as far as it has come.
+use Rattle.std.specs.Prelude.{Err, Ok}
+use Rattle.varint.specs.Answers.{Answer, outcome_of}
 use Prim.Native.Nat.{ℕ, ◌-◌, ◌≤◌, ◌<◌}
 use native.Mathlib.Omega.{arith}
 use mathlib.Core.Path.{◌≡◌, refl, sym, ap, ◌∙◌}
@@ -12,14 +14,11 @@ use Rattle.varint.specs.Lists.{first, keep}
 use Rattle.varint.specs.Bytes.{Bytes}
 use Rattle.wire.specs.Wire.{field, fields}
 use Rattle.wire.specs.Message.{all_of, first_of, message}
-use Rattle.wire.specs.Answers.{sought_says, contents_of, field_says, with_cursor, found_in, sought_in}
+use Rattle.wire.specs.Answers.{sought_says, contents_of, with_cursor, found_in, sought_in, Sought}
 use Rattle.wire.specs.Outline.{start_of, Starts, Outlines, marked}
 use Rattle.varint.specs.declared.Refusal.{Refusal}
 use Rattle.wire.specs.declared.Field.{Field}
 use Rattle.wire.specs.declared.Cursor.{Cursor}
-use Rattle.wire.specs.declared.FieldAnswer.{FieldAnswer}
-use Rattle.wire.specs.declared.FieldAnswer.TheVariants as field_answer
-use Rattle.wire.specs.declared.Sought.{Sought}
 use Rattle.wire.specs.declared.outlines.Outline.{Outline}
 use Rattle.wire.proofs.Fields.{fields_done, fields_step, fields_stop}
 use Rattle.wire.proofs.Reading.{Fits, AtTag, field_tells, field_placed}
@@ -160,15 +159,15 @@ module _ {s : Bytes} {a b c d e f : ℕ} (m : Field) {begin here : Cursor} {o : 
   pub marks_end : m.next ≤ here.at → Outlines s m a b c d e f o
   marks_end h = done (fields_done s m.next here.at h)
 
-  pub marks_stop : here.at < m.next → {r : FieldAnswer} → field_says r ≡ with_cursor here.end (field s here.end here.at) → {x : Refusal}
-      → r ≡ field_answer.Refused x
+  pub marks_stop : here.at < m.next → {r : Answer (Field × Cursor)} → outcome_of r ≡ with_cursor here.end (field s here.end here.at) → {x : Refusal}
+      → r ≡ Err x
       → Outlines s m a b c d e f o
   marks_stop h {r} read {x} k = done (fields_stop s m.next here.at x h (ap (λ (n : ℕ). field s n here.at) (sym q.ends) ∙ answer_refused s here read k))
 
 -- a field more
 module _ {s : Bytes} {a b c d e f end : ℕ} {begin here : Cursor} {o : Outline} (q : Marks s a b c d e f end begin here o) (h : here.at < end)
-    {r : FieldAnswer} (read : field_says r ≡ with_cursor here.end (field s here.end here.at)) {g : Field} {next : Cursor}
-    (k : r ≡ field_answer.Read g next) where
+    {r : Answer (Field × Cursor)} (read : outcome_of r ≡ with_cursor here.end (field s here.end here.at)) {g : Field} {next : Cursor}
+    (k : r ≡ Ok (g, next)) where
   got : (field s here.end here.at ≡ pass g) × (next ≡ record { at = g.next; end = here.end })
   got = answer_read s here read k
 

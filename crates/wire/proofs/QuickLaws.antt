@@ -1,27 +1,23 @@
 -- What is read with few tests is what is read.
+use Rattle.std.specs.Prelude.{Err, Ok}
+use Rattle.varint.specs.Answers.{Answer, outcome_of}
 use Prim.Native.Nat.{ℕ, ◌+◌, ◌-◌, ◌*◌, ◌/◌, ◌%◌, ◌≤◌, ◌<◌}
 use native.Mathlib.Omega.{arith}
 use mathlib.Core.Path.{◌≡◌, refl, sym, ap, ◌∙◌}
 use mathlib.Core.Logic.{inr}
-use mathlib.Core.Bool.{Bool, true, false, not, ◌||◌}
-use lib.Dec.{T, leb, eqb, leb→le, nleb→lt}
-use borrow.Author.Tests.{ne_eqb}
+use mathlib.Core.Bool.{true}
 use Rattle.varint.specs.Outcome.{pass, ◌>>=◌, ◌>>◌, Judged, refuse◌at:◌when:◌}
 use Rattle.varint.specs.Lists.{contains}
 use Rattle.varint.specs.Bytes.{Bytes, byte}
 use Rattle.varint.specs.Varint.{varint, shortest_varint}
 use Rattle.wire.specs.Wire.{tag, sized, value, field}
-use Rattle.varint.specs.Answers.{varint_says}
-use Rattle.wire.specs.Answers.{field_says, with_cursor, after}
+use Rattle.wire.specs.Answers.{with_cursor, after}
 use Rattle.wire.specs.Quick.{Few, Many, wires, QuickTag, Fixed, QuickValue, field_of, Long}
 use Rattle.varint.specs.declared.Refusal.{Refusal}
 use Rattle.varint.specs.declared.Varint.{Varint}
 use Rattle.wire.specs.declared.shorts.Number.{Number}
 use Rattle.wire.specs.declared.Tag.{Tag}
 use Rattle.wire.specs.declared.Field.{Field}
-use Rattle.varint.specs.declared.VarintAnswer.{VarintAnswer}
-use Rattle.varint.specs.declared.VarintAnswer.TheVariants as varint_answer
-use Rattle.wire.specs.declared.FieldAnswer.TheVariants as field_answer
 use Rattle.varint.proofs.Passing.{fail_no_pass, pass_same}
 use Rattle.varint.proofs.Answers.{says}
 use Rattle.wire.proofs.ShortLaws.{good_tag, sized_made}
@@ -60,14 +56,6 @@ module _ (s : Bytes) (end pos a : ℕ) (first : a ≡ byte s pos) where
             (turn_shortest (turn_more (two place (omega arith)) b (omega arith) (omega arith) second again byte_b) c l (omega arith)
             (inr (λ z. omega arith)) (third ∙ ap (λ (x : ℕ). byte s x) (omega arith)) k);
       }
-
--- read or not, it ends in its message
-pub few_inside : {s : Bytes} {end pos : ℕ} {v : Number} → (0 < v.next → Few s end pos v) → v.next ≤ end
-few_inside {s} {end} {pos} {v} q = go (leb v.next 0) (leb→le v.next 0) (nleb→lt v.next 0)
-  where
-    go : (b : Bool) → (T b → v.next ≤ 0) → (T (not b) → 0 < v.next) → v.next ≤ end
-    go true h k = let z = h tt in omega arith
-    go false h k = (q (k tt)).inside
 
 -- ---- a varint with room for ten bytes: `i` of them were read, and all go on
 
@@ -125,14 +113,6 @@ skip_tenth {s} {end} {pos} {i} q {b} {next} h read k e =
     }
 
 -- ---- a tag and its value
-
-pub no_other_wire : (w : ℕ) → (w ≡ 0 → ⊥) → (w ≡ 1 → ⊥) → (w ≡ 2 → ⊥) → eqb w 5 ≡ contains w wires
-unfolding contains
-no_other_wire w a b c = simp (ne_eqb _ _ a, ne_eqb _ _ b, ne_eqb _ _ c) (go (eqb w 5))
-  where
-    go : (x : Bool) → x ≡ (x || false)
-    go true = refl
-    go false = refl
 
 pub quick_tag : (s : Bytes) (end pos : ℕ) (v : Number) → Few s end pos v → 8 ≤ v.value → contains (v.value % 8) wires ≡ true
     → pass (record { place = pos; number = v.value / 8; wire = v.value % 8; next = v.next }) ≡ tag s end pos
@@ -193,10 +173,6 @@ pub fixed_eight : {wire : ℕ} → wire ≡ 1 → Fixed wire 8
 unfolding contains
 fixed_eight e = record { good = rw e refl; read = λ s t end w. as_eight s t end (w ∙ e) }
 
--- a field that ends at 0 was not read
-pub ends_there : {f g : Field} → f ≡ g → 0 < f.next → 0 < g.next
-ends_there e h = rw e at h
-
 pub long_value : {s : Bytes} {t : Tag} {end next : ℕ} (q : Long s t end next) {f : Field} → f ≡ field_of t q.number.value next next → QuickValue s t end f
 long_value {s} {t} {end} {next} q e =
     quick_number s t end (record { value = q.number.value; next = next; shortest = true }) (q.number.read t.place) q.zero q.number.inside e
@@ -208,33 +184,33 @@ unfolding field ◌>>=◌
 quick_field a b = rw (← a.read b.good) (sym b.read)
 
 pub quick_answer : {s : Bytes} {end pos : ℕ} {t : Tag} {f : Field} → QuickTag s end pos t → QuickValue s t end f
-    → field_says (field_answer.Read f (record { at = f.next; end = end })) ≡ with_cursor end (field s end pos)
-unfolding field_says with_cursor after ◌>>=◌
+    → outcome_of (Ok (f, (record { at = f.next; end = end }))) ≡ with_cursor end (field s end pos)
+unfolding outcome_of with_cursor after ◌>>=◌
 quick_answer a b = rw (quick_field a b) refl
 
 pub value_answer : {s : Bytes} {t : Tag} {end : ℕ} {f : Field} → QuickValue s t end f
-    → field_says (field_answer.Read f (record { at = f.next; end = end })) ≡ with_cursor end (value s t end)
-unfolding field_says with_cursor after ◌>>=◌
+    → outcome_of (Ok (f, (record { at = f.next; end = end }))) ≡ with_cursor end (value s t end)
+unfolding outcome_of with_cursor after ◌>>=◌
 value_answer b = rw (← b.read) refl
 
 -- a long number, with what the code knows of its value
 pub long_answer : {s : Bytes} {t : Tag} {end far : ℕ} → Long s t end far → {n : ℕ}
     → ((v : Varint) → pass v ≡ varint s t.place end t.next → n ≡ v.value) → {f : Field}
     → f ≡ field_of t n far far
-    → field_says (field_answer.Read f (record { at = far; end = end })) ≡ with_cursor end (value s t end)
+    → outcome_of (Ok (f, (record { at = far; end = end }))) ≡ with_cursor end (value s t end)
 long_answer {s} {t} {end} {far} q known {f} e =
     let v : Varint = record { value = q.number.value; next = far; shortest = true } in
     let there : f.next ≡ far = ap (λ (g : Field). g.next) e in
     let same : f ≡ field_of t q.number.value far far =
     e ∙ ap (λ (x : ℕ). field_of t x far far) (known v (sym (shortest_is s t.place end t.next v (sym (q.number.read t.place))).0)) in
-    ap (λ (x : ℕ). field_says (field_answer.Read f (record { at = x; end = end }))) (sym there) ∙ value_answer (long_value q same)
+    ap (λ (x : ℕ). outcome_of (Ok (f, (record { at = x; end = end })))) (sym there) ∙ value_answer (long_value q same)
 
 -- the number that is read
-module _ {r : VarintAnswer} {o : Judged Varint} (read : varint_says r ≡ o) (v : Varint) (e : pass v ≡ o) where
-  pub number_of_read : {w : Varint} → r ≡ varint_answer.Read w → w.value ≡ v.value
-  unfolding varint_says
-  number_of_read {w} k = ap (λ (x : Varint). x.value) (pass_same w v (says varint_says read k ∙ sym e))
+module _ {r : Answer Varint} {o : Judged Varint} (read : outcome_of r ≡ o) (v : Varint) (e : pass v ≡ o) where
+  pub number_of_read : {w : Varint} → r ≡ Ok w → w.value ≡ v.value
+  unfolding outcome_of
+  number_of_read {w} k = ap (λ (x : Varint). x.value) (pass_same w v (says outcome_of read k ∙ sym e))
 
-  pub number_of_refused : {q : Refusal} → r ≡ varint_answer.Refused q → 0 ≡ v.value
-  unfolding varint_says
-  number_of_refused {q} k = absurd (fail_no_pass q v (says varint_says read k ∙ sym e))
+  pub number_of_refused : {q : Refusal} → r ≡ Err q → 0 ≡ v.value
+  unfolding outcome_of
+  number_of_refused {q} k = absurd (fail_no_pass q v (says outcome_of read k ∙ sym e))

@@ -1,4 +1,6 @@
 -- A short field is the field that is read.
+use Rattle.std.specs.Prelude.{Ok}
+use Rattle.varint.specs.Answers.{outcome_of}
 use Prim.Native.Nat.{ℕ, ◌+◌, ◌/◌, ◌%◌, ◌^◌, ◌≤◌, ◌<◌}
 use native.Mathlib.Omega.{arith}
 use mathlib.Core.Path.{◌≡◌, refl, sym, ap, ◌∙◌}
@@ -12,11 +14,10 @@ use Rattle.varint.specs.Lists.{contains}
 use Rattle.varint.specs.Bytes.{Bytes, byte}
 use Rattle.varint.specs.Varint.{shortest_varint}
 use Rattle.wire.specs.Wire.{bad_tag, tag, sized, value, field}
-use Rattle.wire.specs.Answers.{field_says, with_cursor, after}
+use Rattle.wire.specs.Answers.{with_cursor, after}
 use Rattle.wire.specs.Short.{Short, short_field}
 use Rattle.wire.specs.declared.Tag.{Tag}
 use Rattle.wire.specs.declared.Field.{Field}
-use Rattle.wire.specs.declared.FieldAnswer.TheVariants as field_answer
 use Rattle.varint.proofs.ShortestLaws.{shortest_byte}
 
 pub good_tag : (t w : ℕ) → 8 ≤ t → t < 2 ^ 32 → t % 8 ≡ w → contains w (0 ∷ 1 ∷ 2 ∷ 5 ∷ []) ≡ true → bad_tag t ≡ false
@@ -95,6 +96,6 @@ field_said s pos next t n v a b e =
     ∙ ap (λ (y : ℕ). said pos next (byte s pos) y) b
 
 pub short_answer : {s : Bytes} {end pos next : ℕ} → Short s end pos next → {f : Field} → f ≡ short_field s pos next
-    → field_says (field_answer.Read f (record { at = next; end = end })) ≡ with_cursor end (field s end pos)
-unfolding field_says with_cursor after short_field ◌>>=◌
+    → outcome_of (Ok (f, (record { at = next; end = end }))) ≡ with_cursor end (field s end pos)
+unfolding outcome_of with_cursor after short_field ◌>>=◌
 short_answer q e = rw q.read (rw e refl)

@@ -1,36 +1,26 @@
--- What each answer of the code says: a value or a refusal, and with a field the cursor after it.
-use Rattle.std.specs.Prelude.{ℕ, eqb}
+-- What the answers of the code say of fields, each with the cursor after it.
+use Rattle.std.specs.declared.option.Option as code
+use Rattle.std.specs.Prelude.{ℕ, eqb, None, Some}
 use Rattle.std.proofs.Math.Option.{Option, none, some}
-use Rattle.varint.specs.Outcome.{pass, fail, ◌>>=◌, Judged}
+use Rattle.varint.specs.Outcome.{pass, ◌>>=◌, Judged}
 use Rattle.varint.specs.Lists.{first, keep}
 use Rattle.varint.specs.Bytes.{Bytes}
 use Rattle.wire.specs.Wire.{fields}
-use Rattle.wire.specs.declared.Tag.{Tag}
 use Rattle.wire.specs.declared.Field.{Field}
 use Rattle.wire.specs.declared.Cursor.{Cursor}
-use Rattle.wire.specs.declared.TagAnswer.{TagAnswer}
-use Rattle.wire.specs.declared.TagAnswer.TheVariants as tag
-use Rattle.wire.specs.declared.FieldAnswer.{FieldAnswer}
-use Rattle.wire.specs.declared.FieldAnswer.TheVariants as field
-use Rattle.wire.specs.declared.Sought.{Sought}
-use Rattle.wire.specs.declared.Sought.TheVariants as sought
 
-unfoldable pub tag_says : TagAnswer → Judged Tag
-tag_says (tag.Read t) = pass t
-tag_says (tag.Refused r) = fail r
-
-unfoldable pub field_says : FieldAnswer → Judged (Field × Cursor)
-field_says (field.Read f c) = pass (f, c)
-field_says (field.Refused r) = fail r
+-- A field that was looked for, with the cursor after it, as the code answers it.
+abbrev pub Sought : Type 0
+Sought = code.Option (Field × Cursor)
 
 unfoldable pub sought_says : Sought → Option (Field × Cursor)
-sought_says (sought.Found f c) = some (f, c)
-sought_says sought.Missing = none
+sought_says (Some (f, c)) = some (f, c)
+sought_says None = none
 
 -- "An absent number reads as 0": the value in the field that was looked for.
 unfoldable pub value_in : Sought → ℕ
-value_in (sought.Found f c) = f.value
-value_in sought.Missing = 0
+value_in (Some (f, c)) = f.value
+value_in None = 0
 
 -- A cursor at the start of the message that a field holds.
 unfoldable pub contents_of : Field → Cursor

@@ -8,8 +8,8 @@ mod outlines;
 mod quick;
 mod shorts;
 
+pub use messages::value_in;
 pub use outlines::Outline;
-use varint::Refusal;
 
 // A tag that was read: where it begins, its field number and wire type, and where it ends.
 #[derive(Clone, Copy)]
@@ -37,24 +37,4 @@ pub struct Field {
 pub struct Cursor {
     pub at: usize,
     pub end: usize,
-}
-
-#[derive(Drop)]
-pub enum TagAnswer {
-    Read(Tag),
-    Refused(Refusal),
-}
-
-// A field, and the cursor after it.
-#[derive(Drop)]
-pub enum FieldAnswer {
-    Read(Field, Cursor),
-    Refused(Refusal),
-}
-
-// The field that was looked for, and the cursor after it.
-#[derive(Drop)]
-pub enum Sought {
-    Found(Field, Cursor),
-    Missing,
 }

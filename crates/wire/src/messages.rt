@@ -3,17 +3,16 @@ ghost use Rattle.std.specs.Prelude.{◌≡◌};
 ghost use Rattle.wire.specs.Message.{first_of, number_of, place_of, text, bytes_of, message};
 ghost use Rattle.wire.specs.Answers.{contents_of, sought_says, value_in, found_in};
 
-use crate::{Cursor, Field, Sought};
+use crate::{Cursor, Field};
 use varint::between;
 
-impl Sought {
-    pub fn value(self) -> u64
-        ensures { result ≡ value_in self }
-    {
-        match self {
-            Sought::Found(f, _) => f.value,
-            Sought::Missing => 0,
-        }
+// The value in the field that was looked for.
+pub fn value_in(sought: Option<(Field, Cursor)>) -> u64
+    ensures { result ≡ value_in sought }
+{
+    match sought {
+        Some((f, _)) => f.value,
+        None => 0,
     }
 }
 
@@ -37,7 +36,7 @@ impl Field {
         between(s, start, next)
     }
 
-    pub fn first_of(self, s: &[u8], number: u64) -> Sought
+    pub fn first_of(self, s: &[u8], number: u64) -> Option<(Field, Cursor)>
         ensures { sought_says result ≡ found_in self.next (first_of number (message s.now self)) }
     {
         self.contents().next_of(s, number)
@@ -46,7 +45,7 @@ impl Field {
     pub fn number_of(self, s: &[u8], number: u64) -> u64
         ensures { result ≡ number_of number (message s.now self) }
     {
-        self.first_of(s, number).value()
+        value_in(self.first_of(s, number))
     }
 
     // "the first tag byte of the field at fault; for something absent, the tag of the message that lacks it"
@@ -54,8 +53,8 @@ impl Field {
         ensures { result ≡ place_of number (message s.now self) }
     {
         match self.first_of(s, number) {
-            Sought::Found(f, _) => f.place,
-            Sought::Missing => self.place,
+            Some((f, _)) => f.place,
+            None => self.place,
         }
     }
 
@@ -63,8 +62,8 @@ impl Field {
         ensures { result.now ≡ bytes_of s.now number (message s.now self) }
     {
         match self.first_of(s, number) {
-            Sought::Found(f, _) => f.text(s),
-            Sought::Missing => between(s, 0, 0),
+            Some((f, _)) => f.text(s),
+            None => between(s, 0, 0),
         }
     }
 }

@@ -3,7 +3,7 @@ ghost use Rattle.std.specs.Prelude.{◌≡◌};
 ghost use Rattle.wire.specs.Answers.{sought_says, sought_in};
 ghost use Rattle.wire.specs.Outline.{Outlines, marked};
 
-use crate::{Cursor, Field, FieldAnswer, Sought};
+use crate::{Cursor, Field};
 
 // The places of six fields, in the order in which their numbers were given; the message's end for one that is not there.
 #[derive(Clone, Copy)]
@@ -42,13 +42,10 @@ impl Field {
             fifth: end,
             sixth: end,
         };
-        loop {
+        // A `while`: the cursor moves by whole fields.
+        while here.at < end {
             let at = here.at;
-            if end <= at {
-                return o;
-            }
-            let read = here.field(s);
-            let FieldAnswer::Read(field, next) = read else {
+            let Ok((field, next)) = here.field(s) else {
                 return o;
             };
             let number = field.number;
@@ -62,16 +59,14 @@ impl Field {
             };
             here = next;
         }
+        o
     }
 
     // The first field with this number, from a place of the message on.
-    pub fn first_from(self, s: &[u8], number: u64, at: usize) -> Sought
+    pub fn first_from(self, s: &[u8], number: u64, at: usize) -> Option<(Field, Cursor)>
         ensures { sought_says result ≡ sought_in s.now number self.next at }
     {
-        let here = Cursor {
-            at: at,
-            end: self.next,
-        };
+        let here = Cursor { at, end: self.next };
         here.next_of(s, number)
     }
 }

@@ -1,6 +1,5 @@
-// Tags and values of the usual sizes, with few tests. What is not read this way, or is at fault, ends at 0, and the general way decides.
-// All answers are structs of numbers or numbers: an enum would go through memory for each field that is passed over.
-ghost use Rattle.std.specs.Prelude.{◌≡◌, true, false, eqb, ◌+◌, ◌%◌, ◌<◌, ◌≤◌, length};
+// Tags and values of the usual sizes, with few tests. Of what is not read this way, or is at fault, the general way decides.
+ghost use Rattle.std.specs.Prelude.{◌≡◌, true, false, eqb, ◌+◌, ◌%◌, ◌<◌, ◌≤◌, length, IfSome};
 ghost use Rattle.varint.specs.Outcome.{pass};
 ghost use Rattle.varint.specs.Varint.{varint};
 ghost use Rattle.wire.specs.Short.{Short, short_field};
@@ -10,36 +9,22 @@ ghost use Rattle.varint.specs.declared.Varint.{Varint};
 use crate::cursors::{I32, I64, LEN, VARINT};
 use crate::shorts::{Number, few_bytes, many_end};
 use crate::{Field, Tag};
-use varint::{VarintAnswer, read_varint, wide};
+use varint::{read_varint, wide};
 
 // The tag at a place, if it has one to three bytes. Its wire type is not looked at.
-pub(crate) fn quick_tag(s: &[u8], at: usize, end: usize) -> Tag
-    ensures { 0 < result.next → QuickTag s.now end at result }
+pub(crate) fn quick_tag(s: &[u8], at: usize, end: usize) -> Option<Tag>
+    ensures { IfSome result (QuickTag s.now end at) }
 {
-    let t = few_bytes(s, at, end);
-    if t.next == 0 {
-        return unread(at);
-    }
+    let t = few_bytes(s, at, end)?;
     if t.value < 8 {
-        return unread(at);
+        return None;
     }
-    Tag {
+    Some(Tag {
         place: at,
         number: t.value / 8,
         wire: t.value % 8,
         next: t.next,
-    }
-}
-
-fn unread(at: usize) -> Tag
-    ensures { result.next ≡ 0 }
-{
-    Tag {
-        place: at,
-        number: 0,
-        wire: 0,
-        next: 0,
-    }
+    })
 }
 
 pub(crate) fn field_of(t: Tag, value: u64, start: usize, next: usize) -> Field
@@ -49,13 +34,14 @@ pub(crate) fn field_of(t: Tag, value: u64, start: usize, next: usize) -> Field
         place: t.place,
         number: t.number,
         wire: t.wire,
-        value: value,
-        start: start,
-        next: next,
+        value,
+        start,
+        next,
     }
 }
 
-// How many bytes a value of fixed size has; 0 for another wire type.
+// How many bytes a value of fixed size has; 0 for another wire type. As an `Option` it makes a jump table of `quick_value`'s tests, and
+// looking for short numbers takes 1.4 times as long.
 fn fixed_size(wire: u64) -> usize
     ensures { 0 < result → Fixed wire result }
 {
@@ -68,60 +54,62 @@ fn fixed_size(wire: u64) -> usize
     0
 }
 
-// Where a value of fixed size ends; 0, if it has none or runs past the message.
-fn fixed_end(wire: u64, from: usize, end: usize) -> usize
-    ensures { 0 < result → FixedEnd wire from end result }
+// Where a value of fixed size ends, if it has one and does not run past the message.
+fn fixed_end(wire: u64, from: usize, end: usize) -> Option<usize>
+    ensures { IfSome result (FixedEnd wire from end) }
 {
     let size = fixed_size(wire);
     if size == 0 {
-        return 0;
+        return None;
     }
     if end < from {
-        return 0;
+        return None;
     }
     if end - from < size {
-        return 0;
+        return None;
     }
-    from + size
+    Some(from + size)
 }
 
-// Where contents of a length end; 0, if the length was not read or they run past the message.
-fn contents_end(n: Number, end: usize) -> usize
+// Where contents of a length end, unless they run past the message.
+fn contents_end(n: Number, end: usize) -> Option<usize>
     requires { n.next ≤ end }
-    ensures { 0 < result → (0 < n.next) × (result ≡ n.next + n.value) × (result ≤ end) }
+    ensures { IfSome result (λ next. (next ≡ n.next + n.value) × (next ≤ end)) }
 {
-    if n.next == 0 {
-        return 0;
-    }
     if ((end - n.next) as u64) < n.value {
-        return 0;
+        return None;
     }
-    n.next + n.value as usize
+    Some(n.next + n.value as usize)
 }
 
-// The field of a tag, if its value or length has one to three bytes, or a fixed size. Its end alone says whether it was read: with fewer
-// ways out it is small enough for the compiler to put where it is called.
-pub(crate) fn quick_value(s: &[u8], t: Tag, end: usize) -> Field
-    ensures { 0 < result.next → QuickValue s.now t end result }
+// The field of a tag, if its value or length has one to three bytes, or a fixed size. The varint is read in one place: with two the
+// compiler no longer puts this where it is called, and looking for fields takes up to 2.8 times as long.
+pub(crate) fn quick_value(s: &[u8], t: Tag, end: usize) -> Option<Field>
+    ensures { IfSome result (QuickValue s.now t end) }
 {
     let wire = t.wire;
     let from = t.next;
-    let n = few_bytes(s, from, end);
+    let few = few_bytes(s, from, end);
     if wire == LEN {
-        return field_of(t, 0, n.next, contents_end(n, end));
+        let n = few?;
+        let start = n.next;
+        let next = contents_end(n, end)?;
+        return Some(field_of(t, 0, start, next));
     }
     if wire == VARINT {
-        return field_of(t, n.value, n.next, n.next);
+        let n = few?;
+        return Some(field_of(t, n.value, n.next, n.next));
     }
-    field_of(t, 0, from, fixed_end(wire, from, end))
+    let next = fixed_end(wire, from, end)?;
+    Some(field_of(t, 0, from, next))
 }
 
 // Where the field of a tag ends, if it is a number of any size with room for ten bytes.
-pub(crate) fn long_end(s: &[u8], t: Tag, end: usize) -> usize
-    ensures { 0 < result → Long s.now t end result }
+pub(crate) fn long_end(s: &[u8], t: Tag, end: usize) -> Option<usize>
+    ensures { IfSome result (Long s.now t end) }
 {
     if t.wire != VARINT {
-        return 0;
+        return None;
     }
     many_end(s, t.next, end)
 }
@@ -131,48 +119,48 @@ pub(crate) fn number_at(s: &[u8], t: Tag, end: usize) -> u64
     ensures { (v : Varint) → pass v ≡ varint s.now t.place end t.next → result ≡ v.value }
 {
     match read_varint(s, t.place, end, t.next) {
-        VarintAnswer::Read(v) => v.value,
-        VarintAnswer::Refused(_) => 0,
+        Ok(v) => v.value,
+        Err(_) => 0,
     }
 }
 
-// The size of the field at a place, if it is short: one byte of tag, one of length or of value. 0, if it is not.
-pub(crate) fn short_size(s: &[u8], at: usize, end: usize) -> usize
-    ensures { 0 < result → Short s.now end at (at + result) }
+// The size of the field at a place, if it is short: one byte of tag, one of length or of value.
+pub(crate) fn short_size(s: &[u8], at: usize, end: usize) -> Option<usize>
+    ensures { IfSome result (λ size. Short s.now end at (at + size)) }
 {
     if end <= at {
-        return 0;
+        return None;
     }
     if s.len() < end {
-        return 0;
+        return None;
     }
     let room = end - at;
     if room < 2 {
-        return 0;
+        return None;
     }
     let t = wide(s[at]);
     if t < 8 {
-        return 0;
+        return None;
     }
     if 128 <= t {
-        return 0;
+        return None;
     }
     let n = wide(s[at + 1]);
     if 128 <= n {
-        return 0;
+        return None;
     }
     let wire = t % 8;
     if wire == VARINT {
-        return 2;
+        return Some(2);
     }
     if wire != LEN {
-        return 0;
+        return None;
     }
     let size = n as usize + 2;
     if room < size {
-        return 0;
+        return None;
     }
-    size
+    Some(size)
 }
 
 fn short_value(t: u64, n: u64) -> u64
@@ -196,6 +184,6 @@ pub(crate) fn short_field(s: &[u8], at: usize, next: usize) -> Field
         wire: t % 8,
         value: short_value(t, wide(s[at + 1])),
         start: at + 2,
-        next: next,
+        next,
     }
 }

@@ -1,95 +1,89 @@
 // Varints of the usual sizes, with few tests.
-ghost use Rattle.std.specs.Prelude.{◌≡◌, ◌<◌};
+ghost use Rattle.std.specs.Prelude.{◌≡◌, ◌<◌, IfSome};
 ghost use Rattle.wire.specs.Quick.{Few, Many};
 
 use varint::wide;
 
-// A varint in its shortest form: its value, and where it ends. Two numbers, so that it stays in registers.
+// A varint in its shortest form: its value, and where it ends.
 #[derive(Drop)]
 pub(crate) struct Number {
     pub(crate) value: u64,
     pub(crate) next: usize,
 }
 
-fn unread() -> Number
-    ensures { result.next ≡ 0 }
-{
-    Number { value: 0, next: 0 }
-}
-
-// Where a varint of more than one byte ends; 0, if it is padded.
-fn end_of(next: usize, last: u64) -> usize
-    ensures { 0 < result → (0 < last) × (result ≡ next) }
+// Where a varint of more than one byte ends, unless it is padded.
+fn end_of(next: usize, last: u64) -> Option<usize>
+    ensures { IfSome result (λ end. (0 < last) × (end ≡ next)) }
 {
     if last == 0 {
-        return 0;
+        return None;
     }
-    next
+    Some(next)
 }
 
-// The varint at a place, if it has one to three bytes, as most have. If not, or where a fault is, it ends at 0.
-pub(crate) fn few_bytes(s: &[u8], at: usize, end: usize) -> Number
-    ensures { 0 < result.next → Few s.now end at result }
+// The varint at a place, if it has one to three bytes, as most have, and no fault.
+pub(crate) fn few_bytes(s: &[u8], at: usize, end: usize) -> Option<Number>
+    ensures { IfSome result (Few s.now end at) }
 {
     if end <= at {
-        return unread();
+        return None;
     }
     if s.len() < end {
-        return unread();
+        return None;
     }
     let a = wide(s[at]);
     if a < 128 {
-        return Number {
+        return Some(Number {
             value: a,
             next: at + 1,
-        };
+        });
     }
     if end <= at + 1 {
-        return unread();
+        return None;
     }
     let b = wide(s[at + 1]);
     if b < 128 {
-        return Number {
+        let next = end_of(at + 2, b)?;
+        return Some(Number {
             value: a - 128 + 128 * b,
-            next: end_of(at + 2, b),
-        };
+            next,
+        });
     }
     if end <= at + 2 {
-        return unread();
+        return None;
     }
     let c = wide(s[at + 2]);
     if c < 128 {
-        return Number {
+        let next = end_of(at + 3, c)?;
+        return Some(Number {
             value: a + 128 * b + 16384 * c - 16512,
-            next: end_of(at + 3, c),
-        };
+            next,
+        });
     }
-    unread()
+    None
 }
 
-// Where the varint at a place ends, if it has room for ten bytes; if not, or where a fault is, 0. The compiler writes the nine turns out.
-pub(crate) fn many_end(s: &[u8], at: usize, end: usize) -> usize
-    ensures { 0 < result → Many s.now end at result }
+// Where the varint at a place ends, if it has room for ten bytes and no fault. The compiler writes the nine turns out.
+pub(crate) fn many_end(s: &[u8], at: usize, end: usize) -> Option<usize>
+    ensures { IfSome result (Many s.now end at) }
 {
     if s.len() < end {
-        return 0;
+        return None;
     }
     if end < at {
-        return 0;
+        return None;
     }
     if end - at < 10 {
-        return 0;
+        return None;
     }
-    let mut i: usize = 0;
-    while i < 9 {
+    for i in 0..9 {
         let b = wide(s[at + i]);
         if b < 128 {
             return end_of(at + i + 1, b);
         }
-        i += 1;
     }
     if wide(s[at + 9]) != 1 {
-        return 0;
+        return None;
     }
-    at + 10
+    Some(at + 10)
 }

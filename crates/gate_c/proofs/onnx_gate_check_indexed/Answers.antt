@@ -4,7 +4,7 @@ use Rattle.gate_c.proofs.onnx_gate_check_indexed.Goals as goal
 
 pub returns : goal.returns
 returns c = record {
-  answer = c.in_numbers.ensures ∙ ap outcome c.check_indexed.ensures.answer;
+  answer = c.from.ensures ∙ ap outcome c.check_indexed.ensures.answer;
   cleared = c.check_indexed.ensures.cleared;
   extras = c.check_indexed.ensures.extras;
 }

@@ -1,21 +1,23 @@
-use Prim.Native.Nat.{◌-◌}
 use native.Mathlib.Omega.{arith}
-use lib.ListN.{length}
-use Rattle.walk_c.proofs.ExportLaws.{Counting, count_start, count_done, count_stop, count_moves, count_next}
-use borrow.Author.Rules.{rules}
+use Rattle.walk_c.proofs.ExportLaws.{count_start, count_stop, count_inside, count_moves, count_next}
 use Rattle.walk_c.proofs.walk_c_varints.Goals as goal
 
-pub loop-at-init : goal.loop-at-init
-loop-at-init c = count_start _
+pub loop-v-init : goal.loop-v-init
+loop-v-init c = count_start _
 
-pub returns-then-end-at : goal.returns-then-end-at
-returns-then-end-at c = count_done c.loop-at.invariant c.if-end-at.true
+pub overflow_add-count : goal.overflow_add-count
+overflow_add-count c = omega (arith, c.loop-v.invariant.few, count_inside c.loop-v.invariant c.read_varint.ensures c.in-Ok.is)
 
-pub returns-in_default : goal.returns-in_default
-returns-in_default c = count_stop c.loop-at.invariant c.if-end-at.false c.read_varint-read.ensures c.in_default.is
+pub loop-v-smaller : goal.loop-v-smaller
+loop-v-smaller c =
+    omega (
+      arith,
+      count_inside c.loop-v.invariant c.read_varint.ensures c.in-Ok.is,
+      count_moves c.loop-v.invariant c.read_varint.ensures c.in-Ok.is,
+    )
 
-pub loop-at-smaller : goal.loop-at-smaller
-loop-at-smaller c = omega (arith, count_moves c.loop-at.invariant c.if-end-at.false c.read_varint-read.ensures c.in-Read.is)
+pub loop-v-preserved : goal.loop-v-preserved
+loop-v-preserved c = count_next c.loop-v.invariant c.read_varint.ensures c.in-Ok.is
 
-pub loop-at-preserved : goal.loop-at-preserved
-loop-at-preserved c = count_next c.loop-at.invariant c.if-end-at.false c.read_varint-read.ensures c.in-Read.is
+pub returns : goal.returns
+returns c = count_stop c.loop-v.invariant c.read_varint.ensures c.in_default.is

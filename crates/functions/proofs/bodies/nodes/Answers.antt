@@ -1,4 +1,5 @@
-use mathlib.Core.Path.{refl, ◌∙◌}
+use Rattle.varint.proofs.Answers.{passed_on}
+use mathlib.Core.Path.{refl}
 use Rattle.wire.specs.Answers.{contents_of}
 use Rattle.schema.proofs.Opened.{function_node}
 use Rattle.scope.proofs.RecallLaws.{minded_then, minded_fewer, minds_higher}
@@ -18,59 +19,55 @@ loop-n-init c =
       c.requires.minds,
     )
 
-pub returns-in_default : goal.returns-in_default
-returns-in_default c =
-    let rest = promised_and (loop_done c.loop-n.invariant.0 c.next_of-sought.ensures c.requires.enters c.in_default.is
+pub returns : goal.returns
+returns c =
+    let rest = promised_and (loop_done c.loop-n.invariant.0 c.next_of.ensures c.requires.enters c.in_default.is
     (nodes_by _ _ _ _ _ _)) c.loop-n.invariant.1.minded in
     record { answer = rest.0; grown = rest.1.0; counts = rest.1.1.0; kept = rest.1.1.1.0; memory = rest.1.1.1.1 }
 
-pub node-step-requires : goal.node-step-requires
-node-step-requires c =
+pub node-requires : goal.node-requires
+node-requires c =
     record {
-      enters = going_enters c.loop-n.invariant.0 c.next_of-sought.ensures c.in-Found.is c.requires.enters.short
+      enters = going_enters c.loop-n.invariant.0 c.next_of.ensures c.in-Some.is c.requires.enters.short
           c.requires.enters.walked (own_contents _) function_node
           (enters_low c.requires.enters);
       minds = minds_higher c.loop-n.invariant.2 c.loop-n.invariant.1.above (lists_fits c.loop-n.invariant.1);
-      listed = rw c.requires.nodes_value (lists_found c.loop-n.invariant.1 c.next_of-sought.ensures c.in-Found.is);
-      countable = going_countable c.loop-n.invariant.0 c.next_of-sought.ensures c.in-Found.is
+      listed = rw c.requires.nodes_value (lists_found c.loop-n.invariant.1 c.next_of.ensures c.in-Some.is);
+      countable = going_countable c.loop-n.invariant.0 c.next_of.ensures c.in-Some.is
           (nodes_countable _ _ _ _ c.requires.countable);
     }
 
-pub returns-in_default-step : goal.returns-in_default-step
-returns-in_default-step c =
-    let rest = promised_and (loop_stops c.loop-n.invariant.0 c.next_of-sought.ensures c.in-Found.is _ c.node-step.ensures.answer
-    c.node-step.ensures.grown
-    c.node-step.ensures.kept c.in_default-step.is (nodes_by _ _ _ _ _ _))
-    (minded_then c.loop-n.invariant.1.minded (minded_fewer c.loop-n.invariant.1.above c.node-step.ensures.memory)) in
+pub returns-in_err-further : goal.returns-in_err-further
+returns-in_err-further c =
+    rw (passed_on _ c.in_err-further.was c.from_residual.ensures.1) (
+    let rest = promised_and (loop_stops c.loop-n.invariant.0 c.next_of.ensures c.in-Some.is _ c.node.ensures.answer
+    c.node.ensures.grown
+    c.node.ensures.kept c.in_err-further.was (nodes_by _ _ _ _ _ _))
+    (minded_then c.loop-n.invariant.1.minded (minded_fewer c.loop-n.invariant.1.above c.node.ensures.memory)) in
     record { answer = rest.0; grown = rest.1.0; counts = rest.1.1.0; kept = rest.1.1.1.0; memory = rest.1.1.1.1 }
+    )
 
 pub list-l-requires : goal.list-l-requires
 list-l-requires c = record {
-  remembering = c.node-step.ensures.memory.recalls.both;
-  top_bound = c.node-step.ensures.memory.held.fits;
+  remembering = c.node.ensures.memory.recalls.both;
+  top_bound = c.node.ensures.memory.held.fits;
   model_len_bound = c.requires.enters.short;
 }
 
 pub loop-n-smaller : goal.loop-n-smaller
-loop-n-smaller c = going_falls c.loop-n.invariant.0 c.next_of-sought.ensures c.in-Found.is
+loop-n-smaller c = going_falls c.loop-n.invariant.0 c.next_of.ensures c.in-Some.is
 
 pub loop-n-preserved : goal.loop-n-preserved
 loop-n-preserved c = (
-  going_goes c.loop-n.invariant.0 c.next_of-sought.ensures c.in-Found.is _ c.node-step.ensures.answer c.node-step.ensures.grown
-      c.node-step.ensures.kept (nodes_count _ _ _ _) c.node-step.ensures.counts c.in-Went.is,
-  lists_next c.loop-n.invariant.1 c.next_of-sought.ensures c.in-Found.is c.node-step.ensures.memory c.list-l.ensures,
-  lists_minds c.loop-n.invariant.1 c.next_of-sought.ensures c.in-Found.is c.loop-n.invariant.2 c.node-step.ensures.memory
+  going_goes c.loop-n.invariant.0 c.next_of.ensures c.in-Some.is _ c.node.ensures.answer c.node.ensures.grown
+      c.node.ensures.kept (nodes_count _ _ _ _) c.node.ensures.counts c.in_ok-further.was,
+  lists_next c.loop-n.invariant.1 c.next_of.ensures c.in-Some.is c.node.ensures.memory c.list-l.ensures,
+  lists_minds c.loop-n.invariant.1 c.next_of.ensures c.in-Some.is c.loop-n.invariant.2 c.node.ensures.memory
       c.list-l.ensures,
 )
 
-pub shape_of-cells-in_default : goal.shape_of-cells-in_default
-shape_of-cells-in_default c = c.loop-n.invariant.0.adding.kept.size
+pub shape_of-cells : goal.shape_of-cells
+shape_of-cells c = c.loop-n.invariant.0.adding.kept.size
 
-pub shape_of-extra-in_default : goal.shape_of-extra-in_default
-shape_of-extra-in_default c = c.loop-n.invariant.1.minded.size
-
-pub shape_of-cells-in_default-step : goal.shape_of-cells-in_default-step
-shape_of-cells-in_default-step c = c.node-step.ensures.kept.size ∙ c.loop-n.invariant.0.adding.kept.size
-
-pub shape_of-extra-in_default-step : goal.shape_of-extra-in_default-step
-shape_of-extra-in_default-step c = c.node-step.ensures.memory.size ∙ c.loop-n.invariant.1.minded.size
+pub shape_of-extra : goal.shape_of-extra
+shape_of-extra c = c.loop-n.invariant.1.minded.size

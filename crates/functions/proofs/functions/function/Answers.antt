@@ -1,3 +1,4 @@
+use Rattle.varint.proofs.Answers.{erred}
 use mathlib.Core.Path.{refl, ◌∙◌}
 use Rattle.scope.proofs.RecallLaws.{recalling_held, recalling_without}
 use Rattle.functions.proofs.FunctionLaws.{function_unread, function_begun, begun_fits, begun_enters, begun_minds, begun_countable, begun_counts}
@@ -14,7 +15,7 @@ head-requires c = record {
 
 pub overflow_add-start : goal.overflow_add-start
 overflow_add-start c = record {
-  fits = begun_fits _ _ _ c.args.version _ c.args.cells.now _ _ _ c.head.ensures.answer c.in-Declared.is _ _
+  fits = begun_fits _ _ _ c.args.version _ c.args.cells.now _ _ _ c.head.ensures.answer c.in_ok-d.was _ _
       c.head.ensures.declared c.requires.countable;
 }
 
@@ -22,27 +23,27 @@ pub body-requires : goal.body-requires
 unfolding within
 body-requires c = record {
   enters = begun_enters c.requires.enters refl;
-  minds = begun_minds c.requires.recalling c.head.ensures.held _ _ c.head.ensures.declared c.in-Declared.is;
-  countable = begun_countable _ _ _ c.args.version _ c.args.cells.now _ _ _ c.head.ensures.answer c.in-Declared.is _ _
+  minds = begun_minds c.requires.recalling c.head.ensures.held _ _ c.head.ensures.declared c.in_ok-d.was;
+  countable = begun_countable _ _ _ c.args.version _ c.args.cells.now _ _ _ c.head.ensures.answer c.in_ok-d.was _ _
       c.head.ensures.declared c.requires.countable;
   nodes_value = refl;
 }
 
-pub returns-in-Refused : goal.returns-in-Refused
+pub returns-in_err-d : goal.returns-in_err-d
 unfolding counted
-returns-in-Refused c = record {
-  answer = function_unread _ _ c.args.left c.args.version _ c.args.cells.now c.args.p _ _ c.head.ensures.answer c.in-Refused.is _;
+returns-in_err-d c = rw (erred c.from_residual.ensures.1) (record {
+  answer = function_unread _ _ c.args.left c.args.version _ c.args.cells.now c.args.p _ _ c.head.ensures.answer c.in_err-d.was _;
   counts = tt;
   size = refl;
   lent = c.head.ensures.held.size;
   memory = recalling_held c.requires.recalling c.head.ensures.held;
-}
+})
 
-pub returns-in-Declared : goal.returns-in-Declared
+pub returns : goal.returns
 unfolding within
-returns-in-Declared c = record {
+returns c = record {
   answer = c.body.ensures.answer ∙ function_begun _ _ c.args.left c.args.version _ c.args.cells.now c.args.p _ _
-      c.head.ensures.answer c.in-Declared.is;
+      c.head.ensures.answer c.in_ok-d.was;
   counts = begun_counts _ _ _ refl _ c.body.ensures.counts;
   size = c.body.ensures.kept.size;
   lent = c.body.ensures.memory.size ∙ c.head.ensures.held.size;

@@ -1,3 +1,4 @@
+use Rattle.varint.proofs.Answers.{passed_on}
 use mathlib.Core.Path.{◌∙◌}
 use Rattle.wire.proofs.Along.{along_start, along_contents}
 use Rattle.scope.proofs.RecallLaws.{recalled_none, recalled_then}
@@ -9,12 +10,9 @@ use Rattle.functions.proofs.inputs.inputs.Goals as goal
 pub loop-name-init : goal.loop-name-init
 loop-name-init c = (adding_start _ _ _ _ _ _ _ (along_start _ _ _ _ _), recalled_none c.requires.recalling)
 
-pub shape_of-extra-in_default : goal.shape_of-extra-in_default
-shape_of-extra-in_default c = c.loop-name.invariant.1.size
-
-pub returns-in_default : goal.returns-in_default
-returns-in_default c =
-    let d = adding_done c.loop-name.invariant.0 c.next_of-sought.ensures c.in_default.is in
+pub returns : goal.returns
+returns c =
+    let d = adding_done c.loop-name.invariant.0 c.next_of.ensures c.in_default.is in
     record {
       answer = d.0 ∙ along_contents _ _ _ _ _ c.contents-c.ensures;
       grown = d.1.0;
@@ -22,34 +20,36 @@ returns-in_default c =
       memory = c.loop-name.invariant.1;
     }
 
-pub input-step-requires : goal.input-step-requires
-input-step-requires c =
+pub input-requires : goal.input-requires
+input-requires c =
     record {
-      direct = adding_direct c.loop-name.invariant.0 c.next_of-sought.ensures c.in-Found.is c.requires.walked c.contents-c.ensures
+      direct = adding_direct c.loop-name.invariant.0 c.next_of.ensures c.in-Some.is c.requires.walked c.contents-c.ensures
           function_input_lem;
-      countable = adding_countable c.loop-name.invariant.0 c.next_of-sought.ensures c.in-Found.is
+      countable = adding_countable c.loop-name.invariant.0 c.next_of.ensures c.in-Some.is
           (from_contents _ _ _ _ _ c.contents-c.ensures c.requires.countable);
       model_len_bound = c.requires.model_len_bound;
       recalling = c.loop-name.invariant.1.recalls;
     }
 
-pub returns-in_default-step : goal.returns-in_default-step
-returns-in_default-step c =
-    let d = adding_stops c.loop-name.invariant.0 c.next_of-sought.ensures c.in-Found.is _ c.input-step.ensures.answer
-    c.input-step.ensures.grown c.input-step.ensures.kept c.in_default-step.is in
+pub returns-in_err-further : goal.returns-in_err-further
+returns-in_err-further c =
+    rw (passed_on _ c.in_err-further.was c.from_residual.ensures.1) (
+    let d = adding_stops c.loop-name.invariant.0 c.next_of.ensures c.in-Some.is _ c.input.ensures.answer
+    c.input.ensures.grown c.input.ensures.kept c.in_err-further.was in
     record {
       answer = d.0 ∙ along_contents _ _ _ _ _ c.contents-c.ensures;
       grown = d.1.0;
       kept = d.1.1;
-      memory = recalled_then c.loop-name.invariant.1 c.input-step.ensures.memory;
+      memory = recalled_then c.loop-name.invariant.1 c.input.ensures.memory;
     }
+    )
 
 pub loop-name-smaller : goal.loop-name-smaller
-loop-name-smaller c = adding_falls c.loop-name.invariant.0 c.next_of-sought.ensures c.in-Found.is
+loop-name-smaller c = adding_falls c.loop-name.invariant.0 c.next_of.ensures c.in-Some.is
 
 pub loop-name-preserved : goal.loop-name-preserved
 loop-name-preserved c = (
-  adding_goes c.loop-name.invariant.0 c.next_of-sought.ensures c.in-Found.is _ c.input-step.ensures.answer
-      c.input-step.ensures.grown c.input-step.ensures.kept (input_counts _) c.in-Went.is,
-  recalled_then c.loop-name.invariant.1 c.input-step.ensures.memory,
+  adding_goes c.loop-name.invariant.0 c.next_of.ensures c.in-Some.is _ c.input.ensures.answer
+      c.input.ensures.grown c.input.ensures.kept (input_counts _) c.in_ok-further.was,
+  recalled_then c.loop-name.invariant.1 c.input.ensures.memory,
 )

@@ -2,12 +2,14 @@ use native.Mathlib.Omega.{arith}
 use Prim.Native.Nat.{ℕ}
 use mathlib.Core.Path.{sym, ap, ◌∙◌}
 use lib.ListN.{replicate}
+use Rattle.gate.specs.Meaning.{meaning}
 use Rattle.gate.proofs.IndexedLaws.{indexed_few, indexed_enough}
 use Rattle.gate.proofs.checks.check_indexed.Goals as goal
 
 pub returns-then-extra-cells : goal.returns-then-extra-cells
+unfolding meaning
 returns-then-extra-cells c = record {
-  answer = c.refused.ensures ∙ indexed_few _ _ c.extra-1.given c.if-extra-cells.true;
+  answer = ap meaning c.refused.ensures ∙ indexed_few _ _ c.extra-1.given c.if-extra-cells.true;
   cleared = c.clear-then-extra-cells.ensures;
   extras = c.clear.ensures;
 }

@@ -10,7 +10,7 @@ returns-in_default c =
 pub returns-then-text-eq0 : goal.returns-then-text-eq0
 returns-then-text-eq0 c =
     added_empty c.requires.indexed c.requires.top_bound
-    (text_empty c.text-text.ensures (bytes_found _ _ _ _ c.first_of.ensures c.in-Found.is) c.if-text-eq0.true)
+    (text_empty c.text-text.ensures (bytes_found _ _ _ _ c.first_of.ensures c.in-Some.is) c.if-text-eq0.true)
 
 pub returns : goal.returns
-returns c = added_as (bytes_found _ _ _ _ c.first_of.ensures c.in-Found.is) c.add.ensures
+returns c = added_as (bytes_found _ _ _ _ c.first_of.ensures c.in-Some.is) c.add.ensures

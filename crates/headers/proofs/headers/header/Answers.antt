@@ -1,37 +1,36 @@
 use native.Mathlib.Omega.{arith}
 use mathlib.Core.Path.{◌∙◌}
-use borrow.Author.Tests.{not-false}
 use Rattle.index.proofs.ListingLaws.{held_all}
-use Rattle.headers.proofs.HeaderLaws.{header_version, header_graph, header_import, header_imported}
+use Rattle.headers.proofs.HeaderLaws.{refused_ruling, refused_holds, header_version, header_graph, header_import, header_imported}
 use Rattle.headers.proofs.headers.header.Goals as goal
 
 pub returns-then-not-is_ir_version : goal.returns-then-not-is_ir_version
 returns-then-not-is_ir_version c =
     record {
-      answer = c.unheaded.ensures.answer
+      answer = refused_ruling c.refused.ensures
           ∙ header_version _ _ c.whole-m.ensures c.number_from.ensures c.is_ir_version.ensures c.if-not-is_ir_version.true
           c.place_of.ensures;
-      imported = c.unheaded.ensures.imported _ _ _ _ _ _;
+      imported = refused_holds c.refused.ensures _ _ _ _ _ _;
       held = held_all c.requires.indexed (omega arith);
     }
 
 pub returns-then-not-has_from : goal.returns-then-not-has_from
 returns-then-not-has_from c =
     record {
-      answer = c.unheaded-then-not-has_from.ensures.answer
+      answer = refused_ruling c.refused-then-not-has_from.ensures
           ∙ header_graph _ _ c.whole-m.ensures c.number_from.ensures c.is_ir_version.ensures c.if-not-is_ir_version.false
           c.has_from.ensures c.if-not-has_from.true;
-      imported = c.unheaded-then-not-has_from.ensures.imported _ _ _ _ _ _;
+      imported = refused_holds c.refused-then-not-has_from.ensures _ _ _ _ _ _;
       held = held_all c.requires.indexed (omega arith);
     }
 
 pub returns-then-not-has_from-2 : goal.returns-then-not-has_from-2
 returns-then-not-has_from-2 c =
     record {
-      answer = c.unheaded-then-not-has_from-2.ensures.answer
+      answer = refused_ruling c.refused-then-not-has_from-2.ensures
           ∙ header_import _ _ c.whole-m.ensures c.number_from.ensures c.is_ir_version.ensures c.if-not-is_ir_version.false
           c.has_from.ensures c.if-not-has_from.false c.has_from-2.ensures c.if-not-has_from-2.true;
-      imported = c.unheaded-then-not-has_from-2.ensures.imported _ _ _ _ _ _;
+      imported = refused_holds c.refused-then-not-has_from-2.ensures _ _ _ _ _ _;
       held = held_all c.requires.indexed (omega arith);
     }
 

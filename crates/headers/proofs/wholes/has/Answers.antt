@@ -1,9 +1,6 @@
-use Rattle.wire.proofs.MessageLaws.{missing, found}
-use Rattle.headers.proofs.HeaderLaws.{has_none, has_some}
+use mathlib.Core.Path.{◌∙◌}
+use Rattle.wire.proofs.MessageLaws.{some_present}
 use Rattle.headers.proofs.wholes.has.Goals as goal
 
-pub returns-in-Found : goal.returns-in-Found
-returns-in-Found c = has_some (found _ _ _ _ c.first_of.ensures c.in-Found.is)
-
-pub returns-in-Missing : goal.returns-in-Missing
-returns-in-Missing c = has_none (missing _ _ _ _ c.first_of.ensures c.in-Missing.is)
+pub returns : goal.returns
+returns c = c.is_some.ensures ∙ some_present _ _ _ _ c.first_of.ensures

@@ -8,34 +8,22 @@ use native.Mathlib.Omega.{arith}
 use Rattle.index.proofs.buckets.hash_of.Goals as goal
 
 pub loop-k-init : goal.loop-k-init
-loop-k-init c = (refl, omega arith, number_start _ _, omega (arith, mod-lt (length c.args.s.now) {m = PRIME} (lit< tt)))
+loop-k-init c = (number_start _ _, omega (arith, mod-lt (length c.args.s.now) {m = PRIME} (lit< tt)))
 
 pub overflow_mul-h : goal.overflow_mul-h
-overflow_mul-h c = omega (arith, digit_fits c.loop-k.h c.args.base c.loop-k.invariant.3 c.requires)
+overflow_mul-h c = omega (arith, digit_fits c.loop-k.h c.args.base c.loop-k.invariant.1 c.requires)
 
 pub digit_at-requires : goal.digit_at-requires
-digit_at-requires c = digit_inside _ _ _ c.loop-k.invariant.0 c.loop-k-test.true
+digit_at-requires c = digit_inside _ _ _ refl c.loop-k-test.true
 
 pub overflow_add-h : goal.overflow_add-h
-overflow_add-h c = omega (arith, digit_fits c.loop-k.h c.args.base c.loop-k.invariant.3 c.requires, c.digit_at.ensures.1)
+overflow_add-h c = omega (arith, digit_fits c.loop-k.h c.args.base c.loop-k.invariant.1 c.requires, c.digit_at.ensures.1)
 
 pub fold-h-requires : goal.fold-h-requires
-fold-h-requires c = omega (arith, digit_fits c.loop-k.h c.args.base c.loop-k.invariant.3 c.requires, c.digit_at.ensures.1)
-
-pub overflow_add-k : goal.overflow_add-k
-overflow_add-k c = omega arith
-
-pub loop-k-smaller : goal.loop-k-smaller
-loop-k-smaller c = omega arith
+fold-h-requires c = omega (arith, digit_fits c.loop-k.h c.args.base c.loop-k.invariant.1 c.requires, c.digit_at.ensures.1)
 
 pub loop-k-preserved : goal.loop-k-preserved
-loop-k-preserved c = (
-  c.loop-k.invariant.0,
-  omega arith,
-  number_next _ _ _ c.loop-k.invariant.2 c.digit_at.ensures.0 c.fold-h.ensures.0,
-  c.fold-h.ensures.1,
-)
+loop-k-preserved c = (number_next _ _ _ c.loop-k.invariant.0 c.digit_at.ensures.0 c.fold-h.ensures.0, c.fold-h.ensures.1)
 
 pub returns : goal.returns
-returns c =
-    (number_end _ _ _ c.loop-k.invariant.0 c.loop-k.invariant.2 c.loop-k.invariant.1 c.loop-k-test.false, mod-lt _ (lit< tt))
+returns c = (number_end _ _ _ refl c.loop-k.invariant.0 c.loop-k.auto.k-end c.loop-k-test.false, mod-lt _ (lit< tt))

@@ -1,3 +1,4 @@
+use Rattle.varint.proofs.Answers.{passed_on}
 use mathlib.Core.Path.{◌∙◌}
 use Rattle.wire.proofs.Along.{along_start, along_contents}
 use Rattle.scope.proofs.RecallLaws.{recalled_none, recalled_then}
@@ -9,12 +10,9 @@ use Rattle.nodes.proofs.outputs.node_outputs.Goals as goal
 pub loop-f-init : goal.loop-f-init
 loop-f-init c = (adding_start _ _ _ _ _ _ _ (along_start _ _ _ _ _), recalled_none c.requires.recalling)
 
-pub shape_of-extra-in_default : goal.shape_of-extra-in_default
-shape_of-extra-in_default c = c.loop-f.invariant.1.size
-
-pub returns-in_default : goal.returns-in_default
-returns-in_default c =
-    let d = adding_done c.loop-f.invariant.0 c.next_of-sought.ensures c.in_default.is in
+pub returns : goal.returns
+returns c =
+    let d = adding_done c.loop-f.invariant.0 c.next_of.ensures c.in_default.is in
     record {
       answer = d.0 ∙ along_contents _ _ _ _ _ c.contents-c.ensures;
       grown = d.1.0;
@@ -22,34 +20,36 @@ returns-in_default c =
       memory = c.loop-f.invariant.1;
     }
 
-pub node_output-step-requires : goal.node_output-step-requires
-node_output-step-requires c =
+pub node_output-requires : goal.node_output-requires
+node_output-requires c =
     record {
-      direct = adding_direct c.loop-f.invariant.0 c.next_of-sought.ensures c.in-Found.is c.requires.walked c.contents-c.ensures
+      direct = adding_direct c.loop-f.invariant.0 c.next_of.ensures c.in-Some.is c.requires.walked c.contents-c.ensures
           node_output_lem;
-      countable = adding_countable c.loop-f.invariant.0 c.next_of-sought.ensures c.in-Found.is
+      countable = adding_countable c.loop-f.invariant.0 c.next_of.ensures c.in-Some.is
           (from_contents _ _ _ _ _ c.contents-c.ensures c.requires.countable);
       model_len_bound = c.requires.model_len_bound;
       recalling = c.loop-f.invariant.1.recalls;
     }
 
-pub returns-in_default-step : goal.returns-in_default-step
-returns-in_default-step c =
-    let d = adding_stops c.loop-f.invariant.0 c.next_of-sought.ensures c.in-Found.is _ c.node_output-step.ensures.answer
-    c.node_output-step.ensures.grown c.node_output-step.ensures.kept c.in_default-step.is in
+pub returns-in_err-further : goal.returns-in_err-further
+returns-in_err-further c =
+    rw (passed_on _ c.in_err-further.was c.from_residual.ensures.1) (
+    let d = adding_stops c.loop-f.invariant.0 c.next_of.ensures c.in-Some.is _ c.node_output.ensures.answer
+    c.node_output.ensures.grown c.node_output.ensures.kept c.in_err-further.was in
     record {
       answer = d.0 ∙ along_contents _ _ _ _ _ c.contents-c.ensures;
       grown = d.1.0;
       kept = d.1.1;
-      memory = recalled_then c.loop-f.invariant.1 c.node_output-step.ensures.memory;
+      memory = recalled_then c.loop-f.invariant.1 c.node_output.ensures.memory;
     }
+    )
 
 pub loop-f-smaller : goal.loop-f-smaller
-loop-f-smaller c = adding_falls c.loop-f.invariant.0 c.next_of-sought.ensures c.in-Found.is
+loop-f-smaller c = adding_falls c.loop-f.invariant.0 c.next_of.ensures c.in-Some.is
 
 pub loop-f-preserved : goal.loop-f-preserved
 loop-f-preserved c = (
-  adding_goes c.loop-f.invariant.0 c.next_of-sought.ensures c.in-Found.is _ c.node_output-step.ensures.answer
-      c.node_output-step.ensures.grown c.node_output-step.ensures.kept (output_counts _) c.in-Went.is,
-  recalled_then c.loop-f.invariant.1 c.node_output-step.ensures.memory,
+  adding_goes c.loop-f.invariant.0 c.next_of.ensures c.in-Some.is _ c.node_output.ensures.answer
+      c.node_output.ensures.grown c.node_output.ensures.kept (output_counts _) c.in_ok-further.was,
+  recalled_then c.loop-f.invariant.1 c.node_output.ensures.memory,
 )

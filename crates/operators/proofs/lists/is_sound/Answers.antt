@@ -11,17 +11,17 @@ pub returns-then-not-is_well_formed : goal.returns-then-not-is_well_formed
 returns-then-not-is_well_formed c =
     judge_broken c.loop-at.invariant c.loop-at-test.true _ c.is_well_formed.ensures c.if-not-is_well_formed.true
 
-pub returns-in_default : goal.returns-in_default
-returns-in_default c =
+pub returns-then-is_some : goal.returns-then-is_some
+returns-then-is_some c =
     judge_twice c.loop-at.invariant c.loop-at-test.true _ c.is_well_formed.ensures c.if-not-is_well_formed.false _
     c.after-next.ensures.0 _
-    c.domain_of.ensures c.entry_of.ensures c.in_default.is
+    c.domain_of.ensures _ c.entry_of.ensures _ c.is_some.ensures c.if-is_some.true
 
 pub loop-at-preserved : goal.loop-at-preserved
 loop-at-preserved c =
     judge_next c.loop-at.invariant c.loop-at-test.true _ c.is_well_formed.ensures c.if-not-is_well_formed.false _
     c.after-next.ensures.0 _
-    c.domain_of.ensures c.entry_of.ensures c.in-Nothing.is
+    c.domain_of.ensures _ c.entry_of.ensures _ c.is_some.ensures c.if-is_some.false
 
 pub returns : goal.returns
 returns c = judge_end c.loop-at.invariant c.loop-at-test.false

@@ -1,3 +1,4 @@
+use Rattle.scope.proofs.StepLaws.{refused_says, refused_grows}
 use native.Mathlib.Omega.{arith}
 use mathlib.Core.Path.{◌∙◌}
 use Rattle.scope.specs.Scope.{step_says, grows}
@@ -11,10 +12,10 @@ bears_input-own-requires c = record { recalling = c.requires.recalling; name_val
 
 pub returns-then-lacks_input : goal.returns-then-lacks_input
 returns-then-lacks_input c = record {
-  answer = c.stopped.ensures.answer _ _
+  answer = refused_says c.refused.ensures _ _
       ∙ declare_lacks _ _ _ _ _ _ _ c.text.ensures (c.bears_input-own.ensures _ c.requires.defaultable) (c.lacks_input.ensures _)
       c.if-lacks_input.true;
-  grown = c.stopped.ensures.grown _;
+  grown = refused_grows c.refused.ensures _;
   kept = keeps_all _ _;
   memory = recalled_none c.requires.recalling;
 }

@@ -1,3 +1,4 @@
+use Rattle.varint.proofs.Answers.{passed_on}
 use native.Mathlib.Omega.{arith}
 use Rattle.scope.proofs.RecallLaws.{minded_then, minded_recalled}
 use Rattle.parts.proofs.ListsLaws.{lists_start, lists_fits, lists_found, lists_next}
@@ -16,12 +17,9 @@ loop-f-init c = (
   omega arith,
 )
 
-pub shape_of-extra-in_default : goal.shape_of-extra-in_default
-shape_of-extra-in_default c = c.loop-f.invariant.1.minded.size
-
-pub returns-in_default : goal.returns-in_default
-returns-in_default c =
-    let d = adding_done c.loop-f.invariant.0 c.next_of-sought.ensures c.in_default.is in
+pub returns : goal.returns
+returns c =
+    let d = adding_done c.loop-f.invariant.0 c.next_of.ensures c.in_default.is in
     record {
       answer = d.0 ∙ along_contents _ _ _ _ _ c.contents-c.ensures;
       grown = d.1.0;
@@ -29,49 +27,51 @@ returns-in_default c =
       memory = c.loop-f.invariant.1.minded;
     }
 
-pub initializer-step-requires : goal.initializer-step-requires
-initializer-step-requires c =
+pub initializer-requires : goal.initializer-requires
+initializer-requires c =
     record {
       model_len_bound = c.requires.model_len_bound;
-      walked = adding_walked c.loop-f.invariant.0 c.next_of-sought.ensures c.in-Found.is c.requires.walked c.contents-c.ensures
+      walked = adding_walked c.loop-f.invariant.0 c.next_of.ensures c.in-Some.is c.requires.walked c.contents-c.ensures
           graph_initializer;
-      countable = adding_countable c.loop-f.invariant.0 c.next_of-sought.ensures c.in-Found.is
+      countable = adding_countable c.loop-f.invariant.0 c.next_of.ensures c.in-Some.is
           (from_contents _ _ _ _ _ c.contents-c.ensures c.requires.countable);
       recalling = c.loop-f.invariant.1.minded.recalls;
       defaultable = c.loop-f.invariant.2;
-      listed = lists_found c.loop-f.invariant.1 c.next_of-sought.ensures c.in-Found.is;
+      listed = lists_found c.loop-f.invariant.1 c.next_of.ensures c.in-Some.is;
     }
 
-pub returns-in_default-step : goal.returns-in_default-step
-returns-in_default-step c =
-    let d = adding_stops c.loop-f.invariant.0 c.next_of-sought.ensures c.in-Found.is _ c.initializer-step.ensures.answer
-    c.initializer-step.ensures.grown c.initializer-step.ensures.kept c.in_default-step.is in
+pub returns-in_err-further : goal.returns-in_err-further
+returns-in_err-further c =
+    rw (passed_on _ c.in_err-further.was c.from_residual.ensures.1) (
+    let d = adding_stops c.loop-f.invariant.0 c.next_of.ensures c.in-Some.is _ c.initializer.ensures.answer
+    c.initializer.ensures.grown c.initializer.ensures.kept c.in_err-further.was in
     record {
       answer = d.0 ∙ along_contents _ _ _ _ _ c.contents-c.ensures;
       grown = d.1.0;
       kept = d.1.1;
       memory = minded_then c.loop-f.invariant.1.minded
-          (minded_recalled c.loop-f.invariant.1.minded.held.fits c.initializer-step.ensures.memory);
+          (minded_recalled c.loop-f.invariant.1.minded.held.fits c.initializer.ensures.memory);
     }
+    )
 
 pub loop-f-smaller : goal.loop-f-smaller
-loop-f-smaller c = adding_falls c.loop-f.invariant.0 c.next_of-sought.ensures c.in-Found.is
+loop-f-smaller c = adding_falls c.loop-f.invariant.0 c.next_of.ensures c.in-Some.is
 
 pub loop-f-preserved : goal.loop-f-preserved
 loop-f-preserved c = (
-  adding_goes c.loop-f.invariant.0 c.next_of-sought.ensures c.in-Found.is _ c.initializer-step.ensures.answer
-      c.initializer-step.ensures.grown
-      c.initializer-step.ensures.kept (initializer_counts _ _ _) c.in-Went.is,
-  lists_next c.loop-f.invariant.1 c.next_of-sought.ensures c.in-Found.is
-      (minded_recalled (lists_fits c.loop-f.invariant.1) c.initializer-step.ensures.memory) c.list-l.ensures,
+  adding_goes c.loop-f.invariant.0 c.next_of.ensures c.in-Some.is _ c.initializer.ensures.answer
+      c.initializer.ensures.grown
+      c.initializer.ensures.kept (initializer_counts _ _ _) c.in_ok-further.was,
+  lists_next c.loop-f.invariant.1 c.next_of.ensures c.in-Some.is
+      (minded_recalled (lists_fits c.loop-f.invariant.1) c.initializer.ensures.memory) c.list-l.ensures,
   default_kept c.loop-f.invariant.2
-      c.loop-f.invariant.3 c.initializer-step.ensures.kept,
-  used_after _ _ c.loop-f.invariant.3 c.initializer-step.ensures.grown c.in-Went.is,
+      c.loop-f.invariant.3 c.initializer.ensures.kept,
+  used_after _ _ c.loop-f.invariant.3 c.initializer.ensures.grown c.in_ok-further.was,
 )
 
 pub list-l-requires : goal.list-l-requires
 list-l-requires c = record {
-  remembering = c.initializer-step.ensures.memory.recalls.both;
-  top_bound = (minded_recalled (lists_fits c.loop-f.invariant.1) c.initializer-step.ensures.memory).held.fits;
+  remembering = c.initializer.ensures.memory.recalls.both;
+  top_bound = (minded_recalled (lists_fits c.loop-f.invariant.1) c.initializer.ensures.memory).held.fits;
   model_len_bound = c.requires.model_len_bound;
 }

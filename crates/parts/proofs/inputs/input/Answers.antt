@@ -1,3 +1,4 @@
+use Rattle.varint.proofs.Answers.{erred, passed_on}
 use mathlib.Core.Path.{ap, ◌∙◌}
 use Rattle.scope.specs.Scope.{step_says, grows}
 use Rattle.scope.proofs.RecallLaws.{recalled_none}
@@ -9,49 +10,49 @@ use Rattle.parts.proofs.InputLaws.{input_unnamed, input_stops, input_goes, input
 use Rattle.parts.proofs.inputs.input.Goals as goal
 
 pub with_odd-requires : goal.with_odd-requires
-with_odd-requires c = input_fits _ _ _ _ c.requires.countable (named_few _ _ _ _ _ c.read_name.ensures c.in-Named.is)
+with_odd-requires c = input_fits _ _ _ _ c.requires.countable (named_few _ _ _ _ _ c.read_name.ensures c.in_ok-name.was)
 
-pub define-step-requires : goal.define-step-requires
-define-step-requires c = record {
-  direct = name_first c.requires.walked value_info_name (named_first _ _ _ _ _ c.read_name.ensures c.in-Named.is);
-  name_value = named_some _ _ _ _ _ c.read_name.ensures c.in-Named.is;
+pub define-requires : goal.define-requires
+define-requires c = record {
+  direct = name_first c.requires.walked value_info_name (named_first _ _ _ _ _ c.read_name.ensures c.in_ok-name.was);
+  name_value = named_some _ _ _ _ _ c.read_name.ensures c.in_ok-name.was;
   model_len_bound = c.requires.model_len_bound;
   recalling = c.requires.recalling;
 }
 
-pub returns-in_default : goal.returns-in_default
-returns-in_default c =
+pub returns-in_err-q : goal.returns-in_err-q
+returns-in_err-q c =
     let e = c.with_odd.ensures in
-    record {
-      answer = λ k i. input_stops _ _ k _ _ _ _ c.read_name.ensures c.in-Named.is e _ _ c.define-step.ensures.answer
-          c.in_default.is;
-      grown = odd_grows _ _ e _ c.define-step.ensures.grown;
-      kept = odd_keeps _ _ e c.define-step.ensures.kept;
-      memory = c.define-step.ensures.memory;
-    }
+    rw (passed_on _ c.in_err-q.was c.from_residual-in_err-q.ensures.1) (record {
+      answer = λ k i. input_stops _ _ k _ _ _ _ c.read_name.ensures c.in_ok-name.was e _ _ c.define.ensures.answer
+          c.in_err-q.was;
+      grown = odd_grows _ _ e _ c.define.ensures.grown;
+      kept = odd_keeps _ _ e c.define.ensures.kept;
+      memory = c.define.ensures.memory;
+    })
 
 pub counting-requires : goal.counting-requires
 counting-requires c =
-    input_adds _ _ _ _ c.requires.countable (named_few _ _ _ _ _ c.read_name.ensures c.in-Named.is) c.with_odd.ensures
-    _ _ _ _ _ c.define-step.ensures.answer c.in-Went.is _ c.main_type.ensures
+    input_adds _ _ _ _ c.requires.countable (named_few _ _ _ _ _ c.read_name.ensures c.in_ok-name.was) c.with_odd.ensures
+    _ _ _ _ _ c.define.ensures.answer c.in_ok-q.was _ c.main_type.ensures
 
-pub returns-in-Refused : goal.returns-in-Refused
+pub returns-in_err-name : goal.returns-in_err-name
 unfolding step_says grows
-returns-in-Refused c = record {
-  answer = λ k e. input_unnamed _ _ k _ _ _ _ c.read_name.ensures c.in-Refused.is;
+returns-in_err-name c = rw (erred c.from_residual.ensures.1) (record {
+  answer = λ k e. input_unnamed _ _ k _ _ _ _ c.read_name.ensures c.in_err-name.was;
   grown = tt;
   kept = keeps_all _ _;
   memory = recalled_none c.requires.recalling;
-}
+})
 
-pub returns-in-Went : goal.returns-in-Went
-returns-in-Went c =
+pub returns : goal.returns
+returns c =
     let e = c.with_odd.ensures in
     record {
       answer = λ k i. ap (step_says _ _) c.counting.ensures
-          ∙ input_goes _ _ k _ _ _ _ c.read_name.ensures c.in-Named.is e _ _ c.define-step.ensures.answer c.in-Went.is _
+          ∙ input_goes _ _ k _ _ _ _ c.read_name.ensures c.in_ok-name.was e _ _ c.define.ensures.answer c.in_ok-q.was _
           (c.main_type.ensures k _ i);
-      grown = rw c.counting.ensures (input_grows _ _ (odd_grows _ _ e _ c.define-step.ensures.grown) c.in-Went.is _);
-      kept = odd_keeps _ _ e c.define-step.ensures.kept;
-      memory = c.define-step.ensures.memory;
+      grown = rw c.counting.ensures (input_grows _ _ (odd_grows _ _ e _ c.define.ensures.grown) c.in_ok-q.was _);
+      kept = odd_keeps _ _ e c.define.ensures.kept;
+      memory = c.define.ensures.memory;
     }

@@ -1,3 +1,4 @@
+use Rattle.varint.proofs.Answers.{passed_on}
 use native.Mathlib.Omega.{arith}
 use mathlib.Core.Path.{◌∙◌}
 use Rattle.scope.proofs.SplitLaws.{others_lent}
@@ -8,15 +9,9 @@ use Rattle.second_walk.proofs.model_functions.functions.Goals as goal
 pub loop-f-init : goal.loop-f-init
 loop-f-init c = judging_start _ c.requires.starts c.requires.recalling c.requires.identified c.requires.few_counted
 
-pub shape_of-cells-in_default : goal.shape_of-cells-in_default
-shape_of-cells-in_default c = c.loop-f.invariant.size
-
-pub shape_of-extra-in_default : goal.shape_of-extra-in_default
-shape_of-extra-in_default c = c.loop-f.invariant.sized
-
-pub returns-in_default : goal.returns-in_default
-returns-in_default c = record {
-  answer = judging_done c.loop-f.invariant c.next_of-sought.ensures c.in_default.is;
+pub returns : goal.returns
+returns c = record {
+  answer = judging_done c.loop-f.invariant c.next_of.ensures c.in_default.is;
   size = c.loop-f.invariant.size;
 }
 
@@ -29,51 +24,54 @@ slice_bounds-is_defined-end c =
 pub is_defined-twice-requires : goal.is_defined-twice-requires
 is_defined-twice-requires c =
     record {
-      identified = rw (others_lent _ _) (defining_before c.loop-f.invariant.table c.next_of-sought.ensures c.in-Found.is);
+      identified = rw (others_lent _ _) (defining_before c.loop-f.invariant.table c.next_of.ensures c.in-Some.is);
       starts = c.requires.starts;
     }
 
-pub judge_function-step-requires : goal.judge_function-step-requires
-judge_function-step-requires c = record {
-  enters = judging_enters c.loop-f.invariant c.next_of-sought.ensures c.in-Found.is c.requires.model_len_bound
+pub judge_function-requires : goal.judge_function-requires
+judge_function-requires c = record {
+  enters = judging_enters c.loop-f.invariant c.next_of.ensures c.in-Some.is c.requires.model_len_bound
       c.requires.model_value;
   last_in_bounds = omega (arith, c.requires.last_in_bounds, c.loop-f.invariant.sized);
   recalling = c.loop-f.invariant.memory;
-  countable = judging_countable c.loop-f.invariant c.next_of-sought.ensures c.in-Found.is c.requires.model_len_bound;
+  countable = judging_countable c.loop-f.invariant c.next_of.ensures c.in-Some.is c.requires.model_len_bound;
 }
 
-pub shape_of-cells-in_default-step : goal.shape_of-cells-in_default-step
-shape_of-cells-in_default-step c = c.judge_function-step.ensures.size ∙ c.loop-f.invariant.size
+pub shape_of-cells : goal.shape_of-cells
+shape_of-cells c = c.loop-f.invariant.size
 
-pub shape_of-extra-in_default-step : goal.shape_of-extra-in_default-step
-shape_of-extra-in_default-step c = c.judge_function-step.ensures.lent ∙ c.loop-f.invariant.sized
+pub shape_of-extra : goal.shape_of-extra
+shape_of-extra c = c.loop-f.invariant.sized
 
-pub returns-in_default-step : goal.returns-in_default-step
-returns-in_default-step c = record {
-  answer = judging_stops c.loop-f.invariant c.next_of-sought.ensures c.in-Found.is c.is_defined-twice.ensures _ _
-      c.judge_function-step.ensures.answer c.in_default-step.is;
-  size = c.judge_function-step.ensures.size ∙ c.loop-f.invariant.size;
-}
+pub returns-in_err-further : goal.returns-in_err-further
+returns-in_err-further c =
+    rw (passed_on _ c.in_err-further.was c.from_residual.ensures.1) (
+    record {
+      answer = judging_stops c.loop-f.invariant c.next_of.ensures c.in-Some.is c.is_defined-twice.ensures _ _
+          c.judge_function.ensures.answer c.in_err-further.was;
+      size = c.judge_function.ensures.size ∙ c.loop-f.invariant.size;
+    }
+    )
 
 pub add_function-known-requires : goal.add_function-known-requires
 add_function-known-requires c = record {
-  identified = rw c.judge_function-step.ensures.table
-      (defining_before c.loop-f.invariant.table c.next_of-sought.ensures c.in-Found.is);
-  last_in_bounds = omega (arith, c.requires.last_in_bounds, c.loop-f.invariant.sized, c.judge_function-step.ensures.lent);
+  identified = rw c.judge_function.ensures.table
+      (defining_before c.loop-f.invariant.table c.next_of.ensures c.in-Some.is);
+  last_in_bounds = omega (arith, c.requires.last_in_bounds, c.loop-f.invariant.sized, c.judge_function.ensures.lent);
   model_len_bound = (
     c.requires.model_len_bound,
-    (defining_fits c.loop-f.invariant.table c.next_of-sought.ensures c.in-Found.is).0,
-    (defining_fits c.loop-f.invariant.table c.next_of-sought.ensures c.in-Found.is).1,
+    (defining_fits c.loop-f.invariant.table c.next_of.ensures c.in-Some.is).0,
+    (defining_fits c.loop-f.invariant.table c.next_of.ensures c.in-Some.is).1,
   );
 }
 
 pub loop-f-smaller : goal.loop-f-smaller
-loop-f-smaller c = judging_falls c.loop-f.invariant c.next_of-sought.ensures c.in-Found.is
+loop-f-smaller c = judging_falls c.loop-f.invariant c.next_of.ensures c.in-Some.is
 
 pub loop-f-preserved : goal.loop-f-preserved
 loop-f-preserved c =
-    judging_goes c.loop-f.invariant c.next_of-sought.ensures c.in-Found.is c.is_defined-twice.ensures _ _
-    c.judge_function-step.ensures.answer c.judge_function-step.ensures.counts
-    c.in-Went.is c.judge_function-step.ensures.size (c.add_function-known.ensures.lent ∙ c.judge_function-step.ensures.lent)
-    (rw c.add_function-known.ensures.names c.judge_function-step.ensures.memory)
-    (rw (← c.judge_function-step.ensures.table) c.add_function-known.ensures.added)
+    judging_goes c.loop-f.invariant c.next_of.ensures c.in-Some.is c.is_defined-twice.ensures _ _
+    c.judge_function.ensures.answer c.judge_function.ensures.counts
+    c.in_ok-further.was c.judge_function.ensures.size (c.add_function-known.ensures.lent ∙ c.judge_function.ensures.lent)
+    (rw c.add_function-known.ensures.names c.judge_function.ensures.memory)
+    (rw (← c.judge_function.ensures.table) c.add_function-known.ensures.added)

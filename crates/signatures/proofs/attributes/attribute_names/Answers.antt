@@ -1,5 +1,6 @@
 use native.Mathlib.Omega.{arith}
 use mathlib.Core.Path.{sym, subst, ◌∙◌}
+use Rattle.varint.proofs.Answers.{erred}
 use Rattle.wire.proofs.Along.{along_contents}
 use Rattle.index.specs.Listing.{Listed}
 use Rattle.index.proofs.ListingLaws.{listed_begin, held_all, held_fewer, held_then}
@@ -7,7 +8,7 @@ use Rattle.values.specs.Answers.{tally_says}
 use Rattle.values.proofs.TallyLaws.{tallying_start, tallying_done, tallying_stops, tallying_goes, tallying_falls}
 use Rattle.headers.proofs.BehindLaws.{behind_start, behind_found, behind_next, behind_done}
 use Rattle.signatures.specs.Signature.{attributes_says, lists_all}
-use Rattle.signatures.proofs.AnswerLaws.{listing_as, listing_none}
+use Rattle.signatures.proofs.AnswerLaws.{refused_as, refused_none}
 use Rattle.signatures.proofs.CountLaws.{attribute_few, attributes_few, tallied_few, tallied_sum}
 use Rattle.signatures.proofs.AroundLaws.{before_first, all_first}
 use Rattle.signatures.proofs.attributes.attribute_names.Goals as goal
@@ -19,32 +20,32 @@ loop-a-init c = (
   held_all c.requires.indexed (omega arith),
 )
 
-pub returns-in_default : goal.returns-in_default
+pub returns : goal.returns
 unfolding tally_says attributes_says lists_all
-returns-in_default c =
+returns c =
     record {
-      answer = λ w. tallying_done c.loop-a.invariant.0 c.next_of-sought.ensures c.in_default.is w tt
+      answer = λ w. tallying_done c.loop-a.invariant.0 c.next_of.ensures c.in_default.is w tt
           ∙ along_contents _ _ _ _ _ c.contents-c.ensures;
       listed = (
-        subst (Listed _ _ _ _) (sym (all_first _ _)) (behind_done c.loop-a.invariant.1 c.next_of-sought.ensures c.in_default.is),
+        subst (Listed _ _ _ _) (sym (all_first _ _)) (behind_done c.loop-a.invariant.1 c.next_of.ensures c.in_default.is),
         tallied_few c.loop-a.invariant.0 _ c.contents-c.ensures,
       );
       held = c.loop-a.invariant.2;
     }
 
-pub attribute_name-tally-requires : goal.attribute_name-tally-requires
-attribute_name-tally-requires c =
-    subst (Listed _ _ _ _) (sym (before_first _ _ _)) (behind_found c.loop-a.invariant.1 c.next_of-sought.ensures c.in-Found.is)
+pub attribute_name-requires : goal.attribute_name-requires
+attribute_name-requires c =
+    subst (Listed _ _ _ _) (sym (before_first _ _ _)) (behind_found c.loop-a.invariant.1 c.next_of.ensures c.in-Some.is)
 
-pub returns-in_default-tally : goal.returns-in_default-tally
-returns-in_default-tally c =
+pub returns-in_err-more : goal.returns-in_err-more
+returns-in_err-more c =
     record {
-      answer = λ w. listing_as _ _ c.listing.ensures w
-          ∙ tallying_stops c.loop-a.invariant.0 c.next_of-sought.ensures c.in-Found.is (λ v _. tt)
-          (λ v _. c.attribute_name-tally.ensures v)
-          c.in_default-tally.is w tt
+      answer = λ w. refused_as (erred c.from_residual.ensures.1) c.in_err-more.was w
+          ∙ tallying_stops c.loop-a.invariant.0 c.next_of.ensures c.in-Some.is (λ v _. tt)
+          (λ v _. c.attribute_name.ensures v)
+          c.in_err-more.was w tt
           ∙ along_contents _ _ _ _ _ c.contents-c.ensures;
-      listed = listing_none _ _ c.listing.ensures c.in_default-tally.is _ _ _ _ _;
+      listed = refused_none (erred c.from_residual.ensures.1) _ _ _ _ _;
       held = c.loop-a.invariant.2;
     }
 
@@ -57,19 +58,19 @@ add-l-requires c = record {
 
 pub overflow_add-odd : goal.overflow_add-odd
 overflow_add-odd c =
-    let sum = tallied_sum c.loop-a.invariant.0 _ c.contents-c.ensures c.next_of-sought.ensures c.in-Found.is
-    (attribute_few _ _ _ c.attribute_name-tally.ensures c.in-Counted.is) in
+    let sum = tallied_sum c.loop-a.invariant.0 _ c.contents-c.ensures c.next_of.ensures c.in-Some.is
+    (attribute_few _ _ _ c.attribute_name.ensures c.in_ok-more.was) in
     let few = attributes_few c.args.model.now c.args.f in
     omega arith
 
 pub loop-a-smaller : goal.loop-a-smaller
-loop-a-smaller c = tallying_falls c.loop-a.invariant.0 c.next_of-sought.ensures c.in-Found.is
+loop-a-smaller c = tallying_falls c.loop-a.invariant.0 c.next_of.ensures c.in-Some.is
 
 pub loop-a-preserved : goal.loop-a-preserved
 loop-a-preserved c = (
-  tallying_goes c.loop-a.invariant.0 c.next_of-sought.ensures c.in-Found.is (λ v _. tt) (λ v _. c.attribute_name-tally.ensures v)
-      c.in-Counted.is
-      (attribute_few _ _ _ c.attribute_name-tally.ensures c.in-Counted.is),
-  behind_next c.loop-a.invariant.1 c.next_of-sought.ensures c.in-Found.is c.add-l.ensures,
+  tallying_goes c.loop-a.invariant.0 c.next_of.ensures c.in-Some.is (λ v _. tt) (λ v _. c.attribute_name.ensures v)
+      c.in_ok-more.was
+      (attribute_few _ _ _ c.attribute_name.ensures c.in_ok-more.was),
+  behind_next c.loop-a.invariant.1 c.next_of.ensures c.in-Some.is c.add-l.ensures,
   held_then c.loop-a.invariant.2 (held_fewer (omega arith) c.add-l.ensures.held),
 )

@@ -1,13 +1,14 @@
 use mathlib.Core.Path.{◌∙◌}
 use Rattle.index.proofs.ListingLaws.{held_all}
+use Rattle.headers.proofs.HeaderLaws.{refused_ruling, refused_holds}
 use Rattle.headers.proofs.ImportLaws.{imports_from}
 use Rattle.signatures.proofs.SignatureLaws.{imports_none, imports_some}
 use Rattle.signatures.proofs.signatures.imports.Goals as goal
 
 pub returns-then-not-has : goal.returns-then-not-has
 returns-then-not-has c = record {
-  answer = c.unheaded.ensures.answer ∙ imports_none _ _ _ c.has.ensures c.if-not-has.true;
-  imported = c.unheaded.ensures.imported _ _ _ _ _ _;
+  answer = refused_ruling c.refused.ensures ∙ imports_none _ _ _ c.has.ensures c.if-not-has.true;
+  imported = refused_holds c.refused.ensures _ _ _ _ _ _;
   held = held_all c.requires.indexed c.requires.top_bound;
 }
 

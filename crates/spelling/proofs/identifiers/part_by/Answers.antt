@@ -1,22 +1,18 @@
-use native.Mathlib.Omega.{arith}
 use Rattle.spelling.proofs.IdentifierLaws.{part_empty, part_none, part_start, part_stop, part_next, part_end}
 use Rattle.spelling.proofs.identifiers.part_by.Goals as goal
 
-pub returns-then-name-eq0 : goal.returns-then-name-eq0
-returns-then-name-eq0 c =
-    let rest = part_empty _ c.if-name-eq0.true in
+pub returns-in_default : goal.returns-in_default
+returns-in_default c =
+    let rest = part_empty _ c.in_default.len_below in
     record { upper_bound = rest.0; name_value = rest.1.0; name_value_2 = rest.1.1 }
-
-pub bounds-name-0 : goal.bounds-name-0
-bounds-name-0 c = omega (arith, c.if-name-eq0.false)
 
 pub returns-then-not-is_letter : goal.returns-then-not-is_letter
 returns-then-not-is_letter c =
-    let rest = part_none _ c.if-name-eq0.false _ c.is_letter.ensures c.if-not-is_letter.true in
+    let rest = part_none _ c.in-len1-up.len_at_least _ c.is_letter.ensures c.if-not-is_letter.true in
     record { upper_bound = rest.0; name_value = rest.1.0; name_value_2 = rest.1.1 }
 
 pub loop-i-init : goal.loop-i-init
-loop-i-init c = part_start _ c.if-name-eq0.false _ c.is_letter.ensures c.if-not-is_letter.false
+loop-i-init c = part_start _ c.in-len1-up.len_at_least _ c.is_letter.ensures c.if-not-is_letter.false
 
 pub returns-then-not-is_identifier_byte : goal.returns-then-not-is_identifier_byte
 returns-then-not-is_identifier_byte c =

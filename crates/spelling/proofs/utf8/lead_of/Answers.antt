@@ -46,10 +46,10 @@ returns-in-241-to-243 c =
     lead_row _ 7 (0xF1, 0xF3, ahead 3 0x80 0xBF)
     (omega arith)
 
-pub returns-in_default : goal.returns-in_default
+pub returns-in-128-to-193 : goal.returns-in-128-to-193
 unfolding leads lead_says
-returns-in_default c = no_row _ 1 (omega arith)
+returns-in-128-to-193 c = no_row _ 1 (omega arith)
 
-pub returns-in_default-2 : goal.returns-in_default-2
+pub returns-in-245-to-255 : goal.returns-in-245-to-255
 unfolding leads lead_says
-returns-in_default-2 c = no_row _ 9 (omega arith)
+returns-in-245-to-255 c = no_row _ 9 (omega arith)

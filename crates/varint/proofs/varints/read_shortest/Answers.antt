@@ -1,14 +1,17 @@
-use mathlib.Core.Path.{◌∙◌}
-use Rattle.varint.specs.Answers.{varint_says}
+use mathlib.Core.Path.{ap, ◌∙◌}
+use Rattle.varint.specs.Answers.{outcome_of}
+use Rattle.varint.proofs.Answers.{passed_on}
 use Rattle.varint.proofs.ShortestLaws.{shortest_refused, shortest_padded, shortest_read}
 use Rattle.varint.proofs.varints.read_shortest.Goals as goal
 
-pub returns-in_default : goal.returns-in_default
-returns-in_default c = shortest_refused _ _ _ _ c.read_varint-read.ensures c.in_default.is
+pub returns-in_err-v : goal.returns-in_err-v
+returns-in_err-v c =
+    ap outcome_of (passed_on c.read_varint.result c.in_err-v.was c.from_residual.ensures.1) ∙ shortest_refused _ _ _ _ c.read_varint.ensures c.in_err-v.was
 
 pub returns-then-v : goal.returns-then-v
-unfolding varint_says
-returns-then-v c = shortest_read _ _ _ _ c.read_varint-read.ensures c.in-Read.is c.if-v.true
+unfolding outcome_of
+returns-then-v c = shortest_read _ _ _ _ c.read_varint.ensures c.in_ok-v.was c.if-v.true
 
 pub returns : goal.returns
-returns c = c.refused.ensures ∙ shortest_padded _ _ _ _ c.read_varint-read.ensures c.in-Read.is c.if-v.false
+unfolding outcome_of
+returns c = ap outcome_of c.refused.ensures ∙ shortest_padded _ _ _ _ c.read_varint.ensures c.in_ok-v.was c.if-v.false

@@ -1,15 +1,16 @@
+use Rattle.varint.specs.Answers.{outcome_of}
 use Prim.Native.Nat.{◌-◌}
 use native.Mathlib.Omega.{arith}
-use mathlib.Core.Path.{◌∙◌}
-use Rattle.varint.specs.Answers.{varint_says}
-use Rattle.varint.proofs.VarintLaws.{reading_start, turn_past, one_byte, go_start, go_scale, go_small, go_last, go_more, go_past, go_fits, go_tenth, go_end}
+use mathlib.Core.Path.{ap, ◌∙◌}
+use Rattle.varint.proofs.VarintLaws.{reading_start, turn_past, one_byte, go_start, go_scale, go_small, go_last, go_more, go_stop, go_past, go_fits, go_tenth, go_end}
 use Rattle.varint.proofs.varints.read_varint.Goals as goal
 
 pub returns-then-end-from : goal.returns-then-end-from
-returns-then-end-from c = c.refused.ensures ∙ turn_past (reading_start _ _ _ _) c.if-end-from.true
+unfolding outcome_of
+returns-then-end-from c = ap outcome_of c.refused.ensures ∙ turn_past (reading_start _ _ _ _) c.if-end-from.true
 
 pub returns-then-first-lt128 : goal.returns-then-first-lt128
-unfolding varint_says
+unfolding outcome_of
 returns-then-first-lt128 c = one_byte _ _ _ _ _ c.if-end-from.false c.byte_at-first.ensures.0 c.if-first-lt128.true
 
 pub loop-pos-init : goal.loop-pos-init
@@ -26,7 +27,7 @@ overflow_add-result-then-b-lt128 c = record {
 }
 
 pub returns-then-b-lt128 : goal.returns-then-b-lt128
-unfolding varint_says
+unfolding outcome_of
 returns-then-b-lt128 c =
     go_last c.loop-pos.invariant c.loop-pos-test.true _ (omega (arith, c.byte_at-first.ensures.0, c.if-first-lt128.false))
     c.byte_at-b.ensures.0 c.if-b-lt128.true
@@ -48,28 +49,30 @@ pub loop-pos-preserved : goal.loop-pos-preserved
 loop-pos-preserved c =
     go_more c.loop-pos.invariant c.loop-pos-test.true _ c.byte_at-b.ensures.0 c.if-b-lt128.false c.byte_at-b.ensures.1
 
-pub returns-then-end-pos : goal.returns-then-end-pos
-returns-then-end-pos c = c.refused-then-end-pos.ensures ∙ go_past c.loop-pos.invariant c.if-end-pos.true
+pub returns-then-end-stop : goal.returns-then-end-stop
+unfolding outcome_of
+returns-then-end-stop c = ap outcome_of c.refused-then-end-stop.ensures ∙ go_past (go_stop c.loop-pos.invariant c.loop-pos-test.false) c.if-end-stop.true
 
 pub returns-then-tenth-gt1 : goal.returns-then-tenth-gt1
+unfolding outcome_of
 returns-then-tenth-gt1 c =
-    c.refused-then-tenth-gt1.ensures
-    ∙ go_tenth c.loop-pos.invariant c.loop-pos-test.false c.if-end-pos.false _ c.byte_at-tenth.ensures.0 c.if-tenth-gt1.true
+    ap outcome_of c.refused-then-tenth-gt1.ensures
+    ∙ go_tenth (go_stop c.loop-pos.invariant c.loop-pos-test.false) (omega arith) c.if-end-stop.false _ c.byte_at-tenth.ensures.0 c.if-tenth-gt1.true
 
 pub overflow_mul-result-2 : goal.overflow_mul-result-2
 overflow_mul-result-2 c = record {
   fits = omega (
     arith,
-    go_fits c.loop-pos.invariant c.loop-pos-test.false c.if-end-pos.false c.byte_at-tenth.result
+    go_fits (go_stop c.loop-pos.invariant c.loop-pos-test.false) (omega arith) c.if-end-stop.false c.byte_at-tenth.result
         c.if-tenth-gt1.false,
   );
 }
 
 pub overflow_add-result-2 : goal.overflow_add-result-2
 overflow_add-result-2 c = record {
-  fits = go_fits c.loop-pos.invariant c.loop-pos-test.false c.if-end-pos.false c.byte_at-tenth.result c.if-tenth-gt1.false;
+  fits = go_fits (go_stop c.loop-pos.invariant c.loop-pos-test.false) (omega arith) c.if-end-stop.false c.byte_at-tenth.result c.if-tenth-gt1.false;
 }
 
 pub returns : goal.returns
-unfolding varint_says
-returns c = go_end c.loop-pos.invariant c.loop-pos-test.false c.if-end-pos.false _ c.byte_at-tenth.ensures.0 c.if-tenth-gt1.false
+unfolding outcome_of
+returns c = go_end (go_stop c.loop-pos.invariant c.loop-pos-test.false) (omega arith) c.if-end-stop.false _ c.byte_at-tenth.ensures.0 c.if-tenth-gt1.false

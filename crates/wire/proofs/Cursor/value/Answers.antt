@@ -1,16 +1,16 @@
+use Rattle.varint.specs.Answers.{outcome_of}
 use Rattle.wire.proofs.QuickLaws.{value_answer, long_answer}
 use Rattle.varint.proofs.Answers.{says}
-use Rattle.wire.specs.Answers.{field_says}
 use Rattle.wire.proofs.Cursor.value.Goals as goal
 
-pub returns-then-quick-gt0 : goal.returns-then-quick-gt0
-returns-then-quick-gt0 c = value_answer (c.quick_value-quick.ensures c.if-quick-gt0.true)
+pub returns-in-Some : goal.returns-in-Some
+returns-in-Some c = value_answer c.in-Some.ensures
 
-pub returns-then-far-gt0 : goal.returns-then-far-gt0
-returns-then-far-gt0 c = long_answer (c.long_end-far.ensures c.if-far-gt0.true) c.number_at.ensures c.field_of-long.ensures
+pub returns-in-Some-long_end : goal.returns-in-Some-long_end
+returns-in-Some-long_end c = long_answer c.in-Some-long_end.ensures c.number_at.ensures c.field_of-long.ensures
 
-pub returns-in-Refused : goal.returns-in-Refused
-returns-in-Refused c = says field_says c.any_value.ensures c.in-Refused.is
+pub returns-in-Err : goal.returns-in-Err
+returns-in-Err c = says outcome_of c.any_value.ensures c.in-Err.is
 
-pub returns-in-Read : goal.returns-in-Read
-returns-in-Read c = says field_says c.any_value.ensures c.in-Read.is
+pub returns-in-Ok : goal.returns-in-Ok
+returns-in-Ok c = says outcome_of c.any_value.ensures c.in-Ok.is

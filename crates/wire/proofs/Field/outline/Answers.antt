@@ -8,18 +8,18 @@ pub loop-here-init : goal.loop-here-init
 unfolding contents_of
 loop-here-init c = marks_start _ _ _ _ _ _ _ _ (ap (λ (x : Cursor). x.end) c.contents-here.ensures)
 
-pub returns-then-end-at : goal.returns-then-end-at
-returns-then-end-at c = marks_end _ c.loop-here.invariant c.contents-here.ensures c.if-end-at.true
+pub returns : goal.returns
+returns c = marks_end _ c.loop-here.invariant c.contents-here.ensures c.loop-here-test.false
 
 pub returns-in_default : goal.returns-in_default
 returns-in_default c =
-    marks_stop _ c.loop-here.invariant c.contents-here.ensures c.if-end-at.false c.field-read.ensures c.in_default.is
+    marks_stop _ c.loop-here.invariant c.contents-here.ensures c.loop-here-test.true c.field.ensures c.in_default.is
 
 pub loop-here-smaller : goal.loop-here-smaller
-loop-here-smaller c = marks_falls c.loop-here.invariant c.if-end-at.false c.field-read.ensures c.in-Read.is
+loop-here-smaller c = marks_falls c.loop-here.invariant c.loop-here-test.true c.field.ensures c.in-Ok.is
 
 pub loop-here-preserved : goal.loop-here-preserved
 loop-here-preserved c =
-    marks_next c.loop-here.invariant c.if-end-at.false c.field-read.ensures c.in-Read.is c.mark.ensures
+    marks_next c.loop-here.invariant c.loop-here-test.true c.field.ensures c.in-Ok.is c.mark.ensures
     c.mark-in-loop-here.ensures
     c.mark-in-loop-here-2.ensures c.mark-in-loop-here-3.ensures c.mark-in-loop-here-4.ensures c.mark-in-loop-here-5.ensures

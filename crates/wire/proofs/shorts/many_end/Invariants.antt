@@ -1,9 +1,5 @@
 use Rattle.wire.proofs.QuickLaws.{Skipping}
-use Prim.Native.Nat.{◌-◌}
 use Rattle.wire.proofs.shorts.many_end.Given as goal
 
 abbrev pub invariant-loop-i : goal.invariant-loop-i
 invariant-loop-i l = Skipping l.s l.end l.at l.i
-
-abbrev pub decreases-loop-i : goal.decreases-loop-i
-decreases-loop-i l = 9 - l.i
