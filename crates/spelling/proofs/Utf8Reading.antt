@@ -26,9 +26,9 @@ ascii_at s i h k = ap (λ (x : Bytes). octets 0 0x80 0xBF x) (at_drop s i h) ∙
 pub record Reading (w : Bool) (s : Bytes) (i tails lo hi : ℕ) : Type 0 where
   pub rest : octets tails lo hi (drop i s) ≡ w
 
-pub reading_start : (s : Bytes) → Reading (well_formed s) s 0 0 0x80 0xBF
+pub reading_start : (s : Bytes) (i : ℕ) → Reading (well_formed (drop i s)) s i 0 0x80 0xBF
 unfolding well_formed
-reading_start s = record { rest = refl }
+reading_start s i = record { rest = refl }
 
 nothing_left : (tails lo hi : ℕ) → eqb tails 0 ≡ octets tails lo hi []
 unfolding octets

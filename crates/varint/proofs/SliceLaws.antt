@@ -1,14 +1,18 @@
 -- Parts of a slice, and two slices compared byte by byte.
-use Prim.Native.Nat.{ℕ, zero, suc, ◌-◌, ◌≤◌, ◌<◌, min}
+use Prim.Native.Nat.{ℕ, zero, suc, ◌+◌, ◌*◌, ◌-◌, ◌/◌, ◌≤◌, ◌<◌, min}
 use native.Mathlib.Omega.{arith}
-use mathlib.Core.Path.{◌≡◌, refl, sym, ap, ◌∙◌}
-use mathlib.Core.Bool.{Bool, true, false, not, ◌&&◌, and-false}
-use mathlib.Core.List.{[], ◌∷◌}
-use lib.ListN.{length, take, drop, length-drop, drop_of_length-le}
-use lib.Seq.{take-nil}
-use lib.Dec.{T, leb, leb→le, nleb→lt, eqb}
+use mathlib.Core.Path.{◌≡◌, refl, sym, ap, ap₂, ◌∙◌}
+use mathlib.Core.Bool.{Bool, true, false, true≢false, not, ◌&&◌, and-false}
+use mathlib.Core.List.{List, [], ◌∷◌, ◌++◌}
+use lib.ListN.{length, take, drop, get_or, length-drop, drop_of_length-le}
+use lib.Seq.{take-nil, drop-drop}
+use lib.Dec.{T, leb, leb→le, nleb→lt, eqb, eqb_refl}
 use Rattle.varint.specs.Bytes.{Bytes, part, same}
-use lib.Pointwise.{pointwise}
+use lib.Pointwise.{pointwise, bytes_decides}
+use Rattle.std.specs.Simd.{first_chunks}
+use Rattle.std.proofs.lemmas.List.{take-append-drop}
+use Rattle.varint.proofs.Bytes.{same→eq, same_refl}
+use Rattle.varint.proofs.Lists.{T_true}
 
 -- ---- a part that is cut to what there is
 
@@ -48,3 +52,55 @@ pointwise_same [] [] = refl
 pointwise_same [] (b ∷ y) = refl
 pointwise_same (a ∷ x) [] = refl
 pointwise_same (a ∷ x) (b ∷ y) = ap (λ (t : Bool). eqb a b && t) (pointwise_same x y)
+
+-- ---- by eights
+
+-- a part that differs, where strings that are one would share it
+pub same_unless : {a b p q : Bytes} → (a ≡ b → p ≡ q) → true ≡ not (pointwise eqb p q) → false ≡ same a b
+same_unless {a} {b} {p} {q} shared e = go (same a b) (same→eq a b)
+  where
+    go : (t : Bool) → (T t → a ≡ b) → false ≡ t
+    go true h = absurd (true≢false (e ∙ ap not ((bytes_decides p q).1 (shared (h tt)))))
+    go false h = refl
+
+-- what `!=` says of two parts where it says no
+pub not_unlike : {p q : Bytes} → false ≡ not (pointwise eqb p q) → p ≡ q
+not_unlike {p} {q} = go (pointwise eqb p q) (bytes_decides p q).0
+  where
+    go : (t : Bool) → (t ≡ true → p ≡ q) → false ≡ not t → p ≡ q
+    go true h e = h refl
+    go false h e = absurd (true≢false (sym e))
+
+same_behind : (p x y : Bytes) → same (p ++ x) (p ++ y) ≡ same x y
+unfolding same
+same_behind [] x y = refl
+same_behind (b ∷ p) x y = rw (T_true (eqb b b) (eqb_refl b)) (same_behind p x y)
+
+-- what lies behind eight bytes that agree decides
+same_after : (x y : Bytes) → take 8 x ≡ take 8 y → same (drop 8 x) (drop 8 y) ≡ same x y
+same_after x y e =
+    sym (same_behind (take 8 x) _ _) ∙ ap₂ same (take-append-drop 8 x) (ap (λ (p : Bytes). p ++ drop 8 y) e ∙ take-append-drop 8 y)
+
+chunk_at : (k i : ℕ) (x : Bytes) → i < k → get_or (first_chunks 8 k x) i [] ≡ take 8 (drop (8 * i) x)
+chunk_at zero i x h = absurd (omega arith)
+chunk_at (suc k) zero x h = refl
+chunk_at (suc k) (suc i) x h =
+    chunk_at k i (drop 8 x) (omega arith) ∙ ap (take 8) (drop-drop (8 * i) 8 x ∙ ap (λ (n : ℕ). drop n x) (omega arith))
+
+-- all before the eight of number i agrees
+module _ (a b : Bytes) (i : ℕ) (rest : same (drop (8 * i) a) (drop (8 * i) b) ≡ same a b) where
+  pub eight_on : {k m : ℕ} {x y : List Bytes} → x ≡ first_chunks 8 k a → y ≡ first_chunks 8 m b → i < k → i < m →
+      get_or x i [] ≡ get_or y i [] → same (drop (8 * (i + 1)) a) (drop (8 * (i + 1)) b) ≡ same a b
+  eight_on {k} {m} ex ey hk hm e =
+      let next : 8 * (i + 1) ≡ 8 * i + 8 = omega arith in
+      let alike : get_or (first_chunks 8 k a) i [] ≡ get_or (first_chunks 8 m b) i [] = rw (← ex, ← ey) e in
+      rw (next, ← drop-drop 8 (8 * i) a, ← drop-drop 8 (8 * i) b)
+      (same_after _ _ (sym (chunk_at k i a hk) ∙ alike ∙ chunk_at m i b hm) ∙ rest)
+
+  -- of whole eights no more are left, and the last eight bytes agree
+  pub eights_end : length a ≡ length b → length a / 8 ≤ i → drop (length a - 8) a ≡ drop (length b - 8) b → true ≡ same a b
+  eights_end long h e =
+      let from : (x : Bytes) → drop (8 * i) x ≡ drop (8 * i - (length a - 8)) (drop (length a - 8) x) =
+      λ x. ap (λ (n : ℕ). drop n x) (omega arith) ∙ sym (drop-drop (8 * i - (length a - 8)) (length a - 8) x) in
+      let alike : drop (8 * i) a ≡ drop (8 * i) b = from a ∙ ap (drop _) (e ∙ ap (λ (n : ℕ). drop (n - 8) b) (sym long)) ∙ sym (from b) in
+      sym (T_true _ (same_refl (drop (8 * i) a))) ∙ ap (same _) alike ∙ rest

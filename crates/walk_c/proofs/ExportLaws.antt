@@ -94,6 +94,9 @@ pub count_start : (bytes : Bytes) → Counting bytes 0 0
 unfolding varint_count
 count_start bytes = record { few = omega arith; bound = length bytes; enough = omega arith; rest = omega arith }
 
+pub count_done : {bytes : Bytes} {pos count : ℕ} → Counting bytes pos count → length bytes ≤ pos → count ≡ varint_count bytes
+count_done {bytes} {pos} q h = omega (arith, count_end bytes pos q.bound h, q.rest)
+
 module _ {bytes : Bytes} {pos count : ℕ} (q : Counting bytes pos count)
     {r : Answer Varint} (read : outcome_of r ≡ varint bytes pos (length bytes) pos) where
   pub count_stop : {x : Refusal} → r ≡ Err x → count ≡ varint_count bytes

@@ -6,7 +6,7 @@ use Rattle.spelling.proofs.Utf8Reading.{reading_below, reading_above, reading_ta
 use Rattle.spelling.proofs.utf8.is_well_formed.Goals as goal
 
 pub loop-b-init : goal.loop-b-init
-loop-b-init c = reading_start _
+loop-b-init c = reading_start _ 0
 
 pub loop-b-preserved-then-b-lt128 : goal.loop-b-preserved-then-b-lt128
 loop-b-preserved-then-b-lt128 c = reading_ascii c.loop-b.invariant c.if-tails-eq0.true c.loop-b-test.true c.if-b-lt128.true
